@@ -1,0 +1,6 @@
+pub mod Numbers
+pub mod Classes
+pub mod Runs
+pub mod Numerals
+pub mod Tokens
+pub mod Texts

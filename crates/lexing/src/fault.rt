@@ -1,0 +1,15 @@
+// Why a text is refused: the first question that is answered no, and its place in the text.
+#[derive(Clone, Copy)]
+pub enum Question {
+    TextLength,
+    FirstByte,
+    NumeralFits,
+    NameLength,
+    TokenCount,
+}
+
+#[derive(Clone, Copy)]
+pub struct Fault {
+    pub question: Question,
+    pub place: usize,
+}
