@@ -1,6 +1,6 @@
 -- The longest front of a list whose elements all pass a test.
 use mathlib.Core.Path.{_≡_}
-use mathlib.Core.Bool.{Bool, true, false}
+use mathlib.Core.Bool.{Bool, true, false, _&&_}
 use mathlib.Core.List.{List, [], _∷_}
 use Prim.Native.Nat.{ℕ, suc}
 
@@ -17,4 +17,4 @@ begins f (b ∷ bs) = f b
 -- whether every element passes the test
 abbrev pub every : (ℕ → Bool) → List ℕ → Bool
 every f [] = true
-every f (b ∷ bs) = elim (f b) [ true ↦ every f bs | false ↦ false ]
+every f (b ∷ bs) = f b && every f bs

@@ -28,19 +28,22 @@ at-end Mark = false
 abbrev pub behind : Lexeme → ℕ
 behind t = t .place + length (t .bytes)
 
--- the tokens from `offset` on, of which there may be `room` more; each takes a byte at least, so that `steps` is no limit where it is above the length
+-- the tokens from one on: none at the end, a refusal where there is room for none, else that one and those behind it
+abbrev pub from-one : (ℕ → ℕ → List ℕ → Result (List Lexeme) Refusal) → ℕ → Result (Lexeme × List ℕ) Refusal → Result (List Lexeme) Refusal
+from-one others room (Err e) = Err e
+from-one others room (Ok (t, rest)) = elim (at-end (t .kind)) [
+  | true ↦ Ok []
+  | false ↦ elim room [ zero ↦ Err (record { question = TokenCount; place = t .place }) | suc more ↦ before t (others more (behind t) rest) ]
+]
+
+-- the tokens from `offset` on, of which there may be `room`; each takes a byte at least, so that `steps` is no limit where it is above the length
 abbrev pub tokens-from : ℕ → ℕ → ℕ → List ℕ → Result (List Lexeme) Refusal
 tokens-from zero room offset s = Ok []
-tokens-from (suc steps) room offset s = elim (token-at offset s) [
-    Err e ↦ Err e
-  | Ok (t, rest) ↦ elim (at-end (t .kind)) [
-      true ↦ Ok []
-    | false ↦ elim room [
-        zero ↦ Err (record { question = TokenCount; place = t .place })
-      | suc more ↦ before t (tokens-from steps more (behind t) rest) ] ] ]
+tokens-from (suc steps) room offset s = from-one (tokens-from steps) room (token-at offset s)
 
 -- the tokens of a text, the end not counted: at most 16,384 bytes and 4,096 tokens
 abbrev pub tokens-of : List ℕ → Result (List Lexeme) Refusal
 tokens-of s = elim (leb (length s) 16384) [
-    true ↦ tokens-from (suc (length s)) 4096 0 s
-  | false ↦ Err (record { question = TextLength; place = 0 }) ]
+  | true ↦ tokens-from (suc (length s)) 4096 0 s
+  | false ↦ Err (record { question = TextLength; place = 0 })
+]

@@ -69,17 +69,20 @@ numeral-begins (b ∷ bs) = elim (minus b) [ true ↦ begins digit bs | false �
 abbrev pub width : List ℕ → ℕ
 width [] = 0
 width (b ∷ bs) = elim (letter b) [
-    true ↦ run word-byte (b ∷ bs)
-  | false ↦ elim (numeral-begins (b ∷ bs)) [ true ↦ numeral-width (b ∷ bs) | false ↦ elim (mark b) [ true ↦ 1 | false ↦ 0 ] ] ]
+  | true ↦ run word-byte (b ∷ bs)
+  | false ↦ elim (numeral-begins (b ∷ bs)) [ true ↦ numeral-width (b ∷ bs) | false ↦ elim (mark b) [ true ↦ 1 | false ↦ 0 ] ]
+]
 
 -- the kind of the token at the front, where no blank stands before it, or the question that fails
 abbrev pub kind-of : List ℕ → Result Kind Question
 kind-of [] = Ok End
 kind-of (b ∷ bs) = elim (letter b) [
-    true ↦ word-kind (take (width (b ∷ bs)) (b ∷ bs))
+  | true ↦ word-kind (take (width (b ∷ bs)) (b ∷ bs))
   | false ↦ elim (numeral-begins (b ∷ bs)) [
-      true ↦ numeral-kind (take (width (b ∷ bs)) (b ∷ bs)) (drop (width (b ∷ bs)) (b ∷ bs))
-    | false ↦ elim (mark b) [ true ↦ Ok Mark | false ↦ Err FirstByte ] ] ]
+    | true ↦ numeral-kind (take (width (b ∷ bs)) (b ∷ bs)) (drop (width (b ∷ bs)) (b ∷ bs))
+    | false ↦ elim (mark b) [ true ↦ Ok Mark | false ↦ Err FirstByte ]
+  ]
+]
 
 -- the text behind its first blanks
 abbrev pub unblanked : List ℕ → List ℕ
