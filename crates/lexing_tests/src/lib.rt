@@ -1,0 +1,5 @@
+// Tests of lexing at the edges of every question.
+#[cfg(test)]
+mod edges;
+#[cfg(test)]
+mod words;

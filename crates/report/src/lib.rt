@@ -1,0 +1,3 @@
+// Where a byte of a text stands, as a person counts.
+pub mod locate;
+pub mod position;

@@ -1,0 +1,44 @@
+// The command line over the library: reads a script from a file or standard input, and shows what the library answers.
+mod command;
+mod failure;
+mod input;
+mod refusal;
+mod tokens;
+
+use command::Command;
+use failure::Failure;
+use failure::FailureDisplay;
+use failure::FailureFromIo;
+use input::Script;
+
+const HELP: &str = "rethflur: the scripts of a driver kit
+
+usage:
+  rethflur tokens [FILE]   list the tokens of a script: line:column, place, kind and text
+  rethflur --help          print this text
+
+Without FILE the script is read from standard input. A script that is refused is reported as
+FILE:LINE:COLUMN: refused N: and the question that it fails, with the line and a caret under the
+place, and the exit status is 1.
+";
+
+fn run(rt: &LibcRuntime) -> Result<(), Failure> {
+    match command::parse(rt)? {
+        Command::Help => {
+            rt.print(HELP)?;
+            Ok(())
+        }
+        Command::Tokens(file) => tokens::list(rt, &Script::read(rt, file)?),
+    }
+}
+
+fn main(rt: LibcRuntime) -> Result<(), ()> {
+    match run(&rt) {
+        Ok(()) => Ok(()),
+        Err(Failure::Shown) => Err(()),
+        Err(failure) => {
+            let _ = eprintln!(rt, "rethflur: {failure}");
+            Err(())
+        }
+    }
+}
