@@ -18,16 +18,16 @@ use Rattle.lexing.specs.Texts.{before, at-end, behind, from-one, tokens-from, 
 use Rattle.lexing.specs.Answers.{counted}
 use Rattle.lexing.proofs.Walks.{token-shorter}
 
-abbrev Others : Type 0
+abbrev pub Others : Type 0
 Others = ℕ → ℕ → List ℕ → Result (List Lexeme) Refusal
 
 -- the tokens from one on, by whether it is the end
-abbrev by-end : Others → ℕ → Lexeme → List ℕ → Bool → Result (List Lexeme) Refusal
+abbrev pub by-end : Others → ℕ → Lexeme → List ℕ → Bool → Result (List Lexeme) Refusal
 by-end f room t rest true = Ok []
 by-end f zero t rest false = Err (record { question = TokenCount; place = t .place })
 by-end f (suc more) t rest false = before t (f more (behind t) rest)
 
-from-one-is : (f : Others) (room : ℕ) (t : Lexeme) (rest : List ℕ) → from-one f room (Ok (t, rest)) ≡ by-end f room t rest (at-end (t .kind))
+pub from-one-is : (f : Others) (room : ℕ) (t : Lexeme) (rest : List ℕ) → from-one f room (Ok (t, rest)) ≡ by-end f room t rest (at-end (t .kind))
 from-one-is f zero t rest = elim (at-end (t .kind)) as (λ v. elim v as (λ _. Result (List Lexeme) Refusal) [ true ↦ Ok [] | false ↦ Err (record { question = TokenCount; place = t .place }) ] ≡ by-end f zero t rest v) [ true ↦ refl | false ↦ refl ]
 from-one-is f (suc more) t rest = elim (at-end (t .kind)) as (λ v. elim v as (λ _. Result (List Lexeme) Refusal) [ true ↦ Ok [] | false ↦ before t (f more (behind t) rest) ] ≡ by-end f (suc more) t rest v) [ true ↦ refl | false ↦ refl ]
 
@@ -65,7 +65,7 @@ joined-before : (n : ℕ) (t : Lexeme) (a : Result (List Lexeme) Refusal) → jo
 joined-before n t (Ok ts) = ap Ok (omega arith)
 joined-before n t (Err e) = refl
 
-abbrev length-by : List ℕ → Bool → Result (List Lexeme) Refusal
+abbrev pub length-by : List ℕ → Bool → Result (List Lexeme) Refusal
 length-by s v = elim v [ true ↦ tokens-from (suc (length s)) 4096 0 s | false ↦ Err (record { question = TextLength; place = 0 }) ]
 
 -- at the start nothing is counted

@@ -6,3 +6,9 @@ pub mod Shapes
 pub mod Offsets
 pub mod Walks
 pub mod Counts
+pub mod Longest
+pub mod Cuts
+pub mod KindCases
+pub mod Sights
+pub mod FirstToken
+pub mod WholeText

@@ -43,7 +43,7 @@ width-within [] = omega arith
 width-within (b ∷ bs) =
     width-by (letter b) (numeral-begins (b ∷ bs)) (mark b) (run word-byte (b ∷ bs)) (numeral-width (b ∷ bs)) (length bs) (run-within word-byte (b ∷ bs)) (numeral-within b bs (minus b))
 
-letter-word : (b : ℕ) → letter b ≡ true → word-byte b ≡ true
+pub letter-word : (b : ℕ) → letter b ≡ true → word-byte b ≡ true
 letter-word b t = ap (λ v. v || (eqb (class-of b) 3 || (eqb (class-of b) 4 || false))) t
 
 numeral-first : (b : ℕ) (bs : List ℕ) (m : Bool) → elim m as (λ _. Bool) [ true ↦ begins digit bs | false ↦ digit b ] ≡ true → 0 < elim m as (λ _. ℕ) [ true ↦ suc (run digit bs) | false ↦ run digit (b ∷ bs) ]

@@ -6,3 +6,4 @@ pub mod Numerals
 pub mod Tokens
 pub mod Texts
 pub mod Answers
+pub mod Laws

@@ -1,6 +1,7 @@
 // One token from the front of a text.
 ghost use mathlib.Core.Path.{_≡_};
 ghost use Rattle.lexing.specs.Answers.{told, shifted};
+ghost use Rattle.lexing.specs.Laws.{First};
 ghost use Rattle.lexing.specs.Tokens.{token-at};
 use crate::fault::Fault;
 use crate::shape::token_kind;
@@ -26,7 +27,8 @@ pub fn token_at(text: &[u8], offset: usize) -> Result<(Token<'_>, &[u8]), Fault>
 
 // The token at the front of a text, and the rest of the text behind it.
 pub fn token(text: &[u8]) -> Result<(Token<'_>, &[u8]), Fault>
-    ensures { λ r. ⌜ told r ≡ token-at 0 (now (text .entry)) ⌝ }
+    ensures is { λ r. ⌜ told r ≡ token-at 0 (now (text .entry)) ⌝ }
+    ensures law { λ r. ⌜ First 0 (now (text .entry)) (told r) ⌝ }
 {
     token_at(text, 0)
 }

@@ -6,10 +6,11 @@ use lib.ListN.{length}
 use Rattle.std.specs.declared.result.Result.the-variants.{Ok, Err}
 use Rattle.std.proofs.shelf.Results.{err-from-errBy}
 use Rattle.lexing.specs.Answers.{lexeme, refusal, count-told}
-use Rattle.lexing.specs.Texts.{behind}
-use Rattle.lexing.proofs.Counts.{left, left-refused, left-full, left-more}
+use Rattle.lexing.specs.Texts.{at-end, behind}
+use Rattle.lexing.proofs.Counts.{left, too-long, left-end, left-refused, left-full, left-more}
 use Rattle.lexing.proofs.Offsets.{token-here}
 use Rattle.lexing.proofs.Walks.{not-at-end, token-behind, token-shorter}
+use Rattle.lexing.proofs.WholeText.{scanned-law}
 use Rattle.lexing.proofs.scan.scan.Needs as need
 
 pub returns-in-Break-token : need.returns-in-Break-token
@@ -18,14 +19,27 @@ returns-in-Break-token c =
     let o = c .loop-token .offset in
     let e = token-here o (length (c .args .text .now)) s _ (c .loop-token .inv .0) (c .loop-token .inv .1) (c .in-Break-token .ensures tt) in
     let p = err-from-errBy (c .from-residual .result) (c .from-residual .ensures .1) in
-    ap count-told (p .1) ∙ ap (λ f. Err (refusal f)) (p .2) ∙ sym (c .loop-token .inv .3 ∙ left-refused (c .loop-token .count) o s _ e)
+    let r = ap count-told (p .1) ∙ ap (λ f. Err (refusal f)) (p .2) ∙ sym (c .loop-token .inv .3 ∙ left-refused (c .loop-token .count) o s _ e) in
+    record { is = r; law = scanned-law (c .args .text .now) _ r }
 
 pub returns-then-count-eq-MOST-TOKENS : need.returns-then-count-eq-MOST-TOKENS
 returns-then-count-eq-MOST-TOKENS c =
     let s = c .loop-token .rest .now in
     let o = c .loop-token .offset in
     let e = token-here o (length (c .args .text .now)) s _ (c .loop-token .inv .0) (c .loop-token .inv .1) (c .in-Continue-token .ensures tt) in
-    sym (c .loop-token .inv .3 ∙ left-full (c .loop-token .count) o s _ _ e (not-at-end _ (c .in-rest .not-End)) (c .if-count-eq-MOST-TOKENS .taken))
+    let r = sym (c .loop-token .inv .3 ∙ left-full (c .loop-token .count) o s _ _ e (not-at-end _ (c .in-rest .not-End)) (c .if-count-eq-MOST-TOKENS .taken)) in
+    record { is = r; law = scanned-law (c .args .text .now) _ r }
+
+pub returns-then-text-gt-LONGEST-TEXT : need.returns-then-text-gt-LONGEST-TEXT
+returns-then-text-gt-LONGEST-TEXT c =
+    let r = sym (too-long (c .args .text .now) (omega arith)) in record { is = r; law = scanned-law (c .args .text .now) _ r }
+
+pub returns-in-End : need.returns-in-End
+returns-in-End c =
+    let s = c .loop-token .rest .now in
+    let o = c .loop-token .offset in
+    let e = token-here o (length (c .args .text .now)) s _ (c .loop-token .inv .0) (c .loop-token .inv .1) (c .in-Continue-token .ensures tt) in
+    let r = sym (c .loop-token .inv .3 ∙ left-end (c .loop-token .count) o s _ _ e (ap at-end (c .in-End .is))) in record { is = r; law = scanned-law (c .args .text .now) _ r }
 
 pub sub-offset : need.sub-offset
 sub-offset c =
