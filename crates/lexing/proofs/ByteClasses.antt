@@ -1,6 +1,6 @@
 -- What follows of a byte from its class.
-use mathlib.Core.Path.{_≡_, refl}
-use mathlib.Core.Bool.{Bool, true, false, cond, _&&_}
+use mathlib.Core.Path.{_≡_}
+use mathlib.Core.Bool.{Bool, true, cond, _&&_}
 use Prim.Native.Nat.{ℕ, _≤_}
 use mathlib.Core.List.{[], _∷_}
 use lib.Chars.{codes}
@@ -8,7 +8,7 @@ use lib.Dec.{leb, eqb}
 use native.Mathlib.Omega.{arith}
 use Rattle.std.proofs.shelf.Ways.{tells}
 use borrow.Author.Tests.{eqb-true}
-use Rattle.lexing.specs.Classes.{class-of, among, digit, minus}
+use Rattle.lexing.specs.Classes.{among, digit, minus}
 
 -- of six tests in turn, the third was met
 third : (a b c d e f : Bool) → eqb (cond a 1 (cond b 2 (cond c 3 (cond d 4 (cond e 5 (cond f 6 0)))))) 3 ≡ true → c ≡ true

@@ -1,9 +1,8 @@
 -- Where the token of a text without blanks before it is cut, for each shape that such a text has.
-use mathlib.Core.Path.{_≡_, refl, sym, ap, subst, _∙_}
-use mathlib.Core.Bool.{Bool, true, false, _&&_, _||_}
+use mathlib.Core.Path.{_≡_, refl, sym, ap, _∙_}
+use mathlib.Core.Bool.{Bool, true, false, _&&_}
 use mathlib.Core.List.{List, [], _∷_, _++_}
-use Prim.Native.Nat.{ℕ, suc, _+_, _<_, _≤_}
-use native.Mathlib.Omega.{arith}
+use Prim.Native.Nat.{ℕ, suc}
 use lib.Dec.{eqb}
 use lib.ListN.{length, take, drop}
 use lib.Seq.{take-append-seam, drop-append-seam}
@@ -19,7 +18,7 @@ use Rattle.lexing.specs.Runs.{run, begins, every}
 use Rattle.lexing.specs.Numerals.{digits}
 use Rattle.lexing.specs.Tokens.{numeral-begins, numeral-width, width, kind-of, word-kind, numeral-kind}
 use Rattle.lexing.specs.Laws.{Word, Stray, written}
-use Rattle.lexing.proofs.Longest.{run-front, run-is, both-left}
+use Rattle.lexing.proofs.Longest.{run-front, both-left}
 use Rattle.lexing.proofs.Shapes.{kind-word, kind-numeral}
 
 -- a body is cut into bytes and a rest, and this is its kind

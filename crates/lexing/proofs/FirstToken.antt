@@ -1,7 +1,7 @@
 -- The token at the front of a text: its answer is right, and no other is.
 use mathlib.Core.Path.{_≡_, refl, sym, ap, subst, _∙_}
 use mathlib.Core.Bool.{Bool, true, false}
-use mathlib.Core.List.{List, [], _∷_, _++_, append-nil}
+use mathlib.Core.List.{List, [], _++_, append-nil}
 use Prim.Native.Nat.{ℕ, _+_}
 use lib.ListN.{length, take, drop, take-append-drop}
 use lib.Seq.{take-append-seam, drop-append-seam}
@@ -15,11 +15,11 @@ use Rattle.lexing.specs.Classes.{blank}
 use Rattle.lexing.specs.Runs.{run, every}
 use Rattle.lexing.specs.Tokens.{Lexeme, Refusal, width, kind-of, unblanked, token-at}
 use Rattle.lexing.specs.Texts.{at-end}
-use Rattle.lexing.specs.Laws.{Fits, Begins, Refused, Right, ended, First}
+use Rattle.lexing.specs.Laws.{Fits, Right, ended, First}
 use Rattle.lexing.proofs.Offsets.{answer, token-at-is}
 use Rattle.lexing.proofs.Longest.{run-all, run-over, run-front}
 use Rattle.lexing.proofs.Cuts.{Cut}
-use Rattle.lexing.proofs.Sights.{Says, Sight, see, cut-fits, cut-fails}
+use Rattle.lexing.proofs.Sights.{Says, see, cut-fits, cut-fails}
 
 -- the answer for a body that is cut
 abbrev answered : ℕ → List ℕ → List ℕ → Result Kind Question → Result (Lexeme × List ℕ) Refusal

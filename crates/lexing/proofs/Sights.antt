@@ -1,13 +1,13 @@
 -- Every text without blanks before it begins with a token of some kind, or fails a question, and it is cut accordingly.
 use mathlib.Core.Path.{_≡_, refl, sym, ap, subst, _∙_}
 use mathlib.Core.Logic.{inl, inr, ⊎-elim}
-use mathlib.Core.Bool.{Bool, true, false, _&&_, _||_}
+use mathlib.Core.Bool.{Bool, true, false, _&&_}
 use mathlib.Core.List.{List, [], _∷_, _++_}
-use Prim.Native.Nat.{ℕ, suc, _<_, _≤_}
+use Prim.Native.Nat.{ℕ, _<_, _≤_}
 use native.Mathlib.Omega.{arith}
-use lib.Dec.{leb, eqb}
+use lib.Dec.{leb}
 use lib.ListN.{length, take, drop, take-append-drop}
-use borrow.Author.Tests.{both-ways, eqb-true, leb-true, leb-false}
+use borrow.Author.Tests.{leb-true, leb-false}
 use Rattle.std.specs.Options.{isSome}
 use Rattle.std.specs.declared.result.Result.{Result}
 use Rattle.std.specs.declared.result.Result.the-variants.{Ok, Err}
@@ -15,11 +15,11 @@ use Rattle.lexing.specs.declared.token.Kind.{Kind}
 use Rattle.lexing.specs.declared.token.Kind.the-variants.{End, Name, Keyword, Numeral, Mark}
 use Rattle.lexing.specs.declared.fault.Question.{Question}
 use Rattle.lexing.specs.declared.fault.Question.the-variants.{TextLength, FirstByte, NumeralFits, NameLength, TokenCount}
-use Rattle.lexing.specs.Classes.{class-of, blank, letter, digit, mark, minus, word-byte, letter-like}
+use Rattle.lexing.specs.Classes.{blank, letter, digit, mark, minus, word-byte, letter-like}
 use Rattle.lexing.specs.Runs.{run, begins, every}
-use Rattle.lexing.specs.Numerals.{decimal, bound, digits, number-of}
-use Rattle.lexing.specs.Tokens.{keyword, numeral-begins, word-kind, numeral-kind}
-use Rattle.lexing.specs.Laws.{Word, Fits, Fails, Stray, Unfit, Overlong, written}
+use Rattle.lexing.specs.Numerals.{digits, number-of}
+use Rattle.lexing.specs.Tokens.{keyword, word-kind, numeral-kind}
+use Rattle.lexing.specs.Laws.{Word, Fits, Fails, Stray, written}
 use Rattle.lexing.proofs.ByteClasses.{minus-is}
 use Rattle.lexing.proofs.Longest.{run-all, run-over, run-is}
 use Rattle.lexing.proofs.KindCases.{kind-keyword, kind-name, kind-overlong, kind-number, kind-lettered, kind-unfit, number-over, number-none, number-digits}

@@ -1,8 +1,8 @@
 -- The tokens of a whole text: its answer is right, and no other is.
 use mathlib.Core.Path.{_≡_, refl, sym, ap, subst, _∙_}
-use mathlib.Core.Logic.{_⊎_, inl, inr, ⊎-elim}
+use mathlib.Core.Logic.{inl, inr, ⊎-elim}
 use mathlib.Core.Bool.{Bool, true, false}
-use mathlib.Core.List.{List, [], _∷_, _++_}
+use mathlib.Core.List.{List, [], _∷_}
 use Prim.Native.Nat.{ℕ, zero, suc, _+_, _-_, _<_, _≤_}
 use native.Mathlib.Omega.{arith}
 use lib.Dec.{leb}
@@ -17,7 +17,7 @@ use Rattle.lexing.specs.Runs.{every}
 use Rattle.lexing.specs.Tokens.{Lexeme, Refusal, token-at}
 use Rattle.lexing.specs.Texts.{before, at-end, behind, from-one, tokens-from, tokens-of}
 use Rattle.lexing.specs.Answers.{counted}
-use Rattle.lexing.specs.Laws.{Begins, Refused, Right, ended, Walk, Reads, Surplus, Stopped, Stops, Whole, Scanned}
+use Rattle.lexing.specs.Laws.{Begins, Refused, Right, ended, Walk, Surplus, Stopped, Whole, Scanned}
 use Rattle.lexing.proofs.Walks.{token-shorter}
 use Rattle.lexing.proofs.Counts.{Others, by-end, from-one-is, steps-enough, length-by}
 use Rattle.lexing.proofs.FirstToken.{right, right-only, end-blank, ended-is}
@@ -29,7 +29,7 @@ Found room offset s (Err e) = Stopped room offset s e
 
 -- one token more before what is left
 surplus-before : (room last : ℕ) (left : List ℕ) (t : Lexeme) (ts : List Lexeme) (e : Refusal) → Surplus room ts last left e → Surplus (suc room) (t ∷ ts) last left e
-surplus-before room last left t ts e h = record { full = ap suc (h .full); next = h .next; rest = h .rest; begins = h .begins; no-end = h .no-end; refused = h .refused }
+surplus-before room last left t ts e h = record { full = ap suc (h .full); another = h .another; rest = h .rest; next = h .next; no-end = h .no-end; refused = h .refused }
 
 found-before : (room offset : ℕ) (s : List ℕ) (t : Lexeme) (rest : List ℕ) → Begins offset s t rest → at-end (t .kind) ≡ false
     → (a : Result (List Lexeme) Refusal) → Found room (behind t) rest a → Found (suc room) offset s (before t a)
@@ -52,7 +52,7 @@ found-by-end f zero offset s t rest false b n a h = record {
   left = s;
   walk = (refl, refl);
   few = omega arith;
-  why = inr (record { full = refl; next = t; rest = rest; begins = b; no-end = n; refused = refl });
+  why = inr (record { full = refl; another = t; rest = rest; next = b; no-end = n; refused = refl });
 }
 found-by-end f (suc more) offset s t rest false b n a h = found-before more offset s t rest b n (f more (behind t) rest) (h refl more)
 
@@ -126,7 +126,7 @@ found-only room offset s (Ok ts) h =
 found-only room offset s (Err e) h =
     let u : tokens-from (suc (length (h .left))) (room - length (h .ts)) (h .last) (h .left) ≡ Err e =
     ⊎-elim (then-refused (room - length (h .ts)) (h .last) (h .left) e)
-    (λ u. then-surplus (room - length (h .ts)) (h .last) (h .left) (u .next) (u .rest) (let f = u .full in omega arith) (u .begins) (u .no-end) ∙ ap Err (sym (u .refused))) (h .why) in
+    (λ u. then-surplus (room - length (h .ts)) (h .last) (h .left) (u .another) (u .rest) (let f = u .full in omega arith) (u .next) (u .no-end) ∙ ap Err (sym (u .refused))) (h .why) in
     sym (walked (h .ts) (suc (length s)) room offset s (h .last) (h .left) (omega arith) (h .walk) (h .few) ∙ ap (befores (h .ts)) u ∙ befores-err (h .ts) e)
 
 short-is : (s : List ℕ) → length s ≤ 16384 → tokens-of s ≡ tokens-from (suc (length s)) 4096 0 s

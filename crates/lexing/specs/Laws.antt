@@ -120,11 +120,11 @@ pub record Reads (s : List ℕ) (ts : List Lexeme) : Type 0 where
 -- one token more than may be: as many as may be are read, and another one stands next
 pub record Surplus (room : ℕ) (ts : List Lexeme) (last : ℕ) (left : List ℕ) (e : Refusal) : Type 0 where
   pub full : length ts ≡ room
-  pub next : Lexeme
+  pub another : Lexeme
   pub rest : List ℕ
-  pub begins : Begins last left next rest
-  pub no-end : at-end (next .kind) ≡ false
-  pub refused : e ≡ record { question = TokenCount; place = next .place }
+  pub next : Begins last left another rest
+  pub no-end : at-end (another .kind) ≡ false
+  pub refused : e ≡ record { question = TokenCount; place = another .place }
 
 -- a text of which the tokens so far are read, at most `room` of them: the next is refused, or there is one more than may be
 pub record Stopped (room offset : ℕ) (s : List ℕ) (e : Refusal) : Type 0 where

@@ -3,7 +3,7 @@ use mathlib.Core.Path.{_≡_, sym, ap, _∙_}
 use Prim.Native.Nat.{_+_, _-_}
 use native.Mathlib.Omega.{arith}
 use lib.ListN.{length}
-use Rattle.std.specs.declared.result.Result.the-variants.{Ok, Err}
+use Rattle.std.specs.declared.result.Result.the-variants.{Err}
 use Rattle.std.proofs.shelf.Results.{err-from-errBy}
 use Rattle.lexing.specs.Answers.{lexeme, refusal, count-told}
 use Rattle.lexing.specs.Texts.{at-end, behind}
@@ -27,7 +27,7 @@ returns-then-count-eq-MOST-TOKENS c =
     let s = c .loop-token .rest .now in
     let o = c .loop-token .offset in
     let e = token-here o (length (c .args .text .now)) s _ (c .loop-token .inv .0) (c .loop-token .inv .1) (c .in-Continue-token .ensures tt) in
-    let r = sym (c .loop-token .inv .3 ∙ left-full (c .loop-token .count) o s _ _ e (not-at-end _ (c .in-rest .not-End)) (c .if-count-eq-MOST-TOKENS .taken)) in
+    let r = sym (c .loop-token .inv .3 ∙ left-full (c .loop-token .count) o s _ _ e (not-at-end _ (c .in-rest .not-End)) (omega arith)) in
     record { is = r; law = scanned-law (c .args .text .now) _ r }
 
 pub returns-then-text-gt-LONGEST-TEXT : need.returns-then-text-gt-LONGEST-TEXT
