@@ -6,3 +6,7 @@ pub mod Values
 pub mod Questions
 pub mod Plain
 pub mod PlainSession
+pub mod Struck
+pub mod StruckRun
+pub mod Reads
+pub mod RunExamples

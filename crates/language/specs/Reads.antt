@@ -1,0 +1,49 @@
+-- How a list is read out of the regions: from its reference, its type, the positions that region names mean, and the words.
+use mathlib.Core.Path.{_≡_}
+use mathlib.Core.List.{List, [], _∷_}
+use mathlib.Core.Logic.{_≢_}
+use Prim.Native.Nat.{ℕ, zero, suc, _+_, _-_, _*_, _/_, _%_, _<_}
+use lib.ListN.{length, getD}
+use mir.Syntax.{w32}
+use mir.Val.{toZ}
+use Rattle.std.specs.declared.option.Option.{Option}
+use Rattle.std.specs.declared.option.Option.the-variants.{Some, None}
+use Rattle.language.specs.Types.{Name, RegionType, int, list}
+use Rattle.language.specs.Scope.{find}
+use Rattle.language.specs.Values.{Value, number, empty, link}
+use Rattle.language.specs.Plain.{Placed}
+
+-- the word at a place of the region at a position
+abbrev pub word-in : List ℕ → ℕ → Option ℕ
+word-in [] i = None
+word-in (w ∷ ws) zero = Some w
+word-in (w ∷ ws) (suc i) = word-in ws i
+
+abbrev pub word-at : List (List ℕ) → ℕ → ℕ → Option ℕ
+word-at [] p i = None
+word-at (ws ∷ rs) zero i = word-in ws i
+word-at (ws ∷ rs) (suc p) i = word-at rs p i
+
+-- the reference to the two words from a place on, in the region at a position; 0 refers to no words and is the list without elements
+abbrev pub reference : ℕ → ℕ → ℕ
+reference p i = suc (p * 65536 + i)
+
+-- the position and the place that a reference says
+abbrev pub region-of : ℕ → ℕ
+region-of w = (w - 1) / 65536
+
+abbrev pub place-of : ℕ → ℕ
+place-of w = (w - 1) % 65536
+
+-- the position that a region name means, or none
+abbrev pub meant : List Placed → Name → Option ℕ
+meant ρ r = elim (find (λ q. q .name) r ρ) [ Some q ↦ Some (q .position) | None ↦ None ]
+
+-- the word w is the value v at a type whose region names mean positions: a number as itself, a list as a reference into the region that its type names,
+-- to the word of its head and the word of its tail
+pub data Reads (rs : List (List ℕ)) (ρ : List Placed) : RegionType → ℕ → Value → Type 0 where
+  reads-number : (w : ℕ) → Reads rs ρ int w (number (toZ w32 w))
+  reads-empty : {r : Name} {T : RegionType} → Reads rs ρ (list r T) 0 empty
+  reads-link : {r : Name} {T : RegionType} {v v′ : Value} (w h t : ℕ) → meant ρ r ≡ Some (region-of (suc w)) →
+      word-at rs (region-of (suc w)) (place-of (suc w)) ≡ Some h → word-at rs (region-of (suc w)) (suc (place-of (suc w))) ≡ Some t →
+      Reads rs ρ T h v → Reads rs ρ (list r T) t v′ → Reads rs ρ (list r T) (suc w) (link v v′)
