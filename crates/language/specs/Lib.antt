@@ -9,4 +9,5 @@ pub mod PlainSession
 pub mod Struck
 pub mod StruckRun
 pub mod Reads
+pub mod RunLaws
 pub mod RunExamples

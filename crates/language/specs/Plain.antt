@@ -2,7 +2,7 @@
 -- It is told of checked scripts. So that it is total, a function or a region out of scope has a fixed meaning here too; no checked script has one.
 use mathlib.Core.Bool.{Bool, true, false}
 use mathlib.Core.List.{List, [], _∷_, _++_, map}
-use Prim.Native.Nat.{ℕ, zero, suc, _+_, _-_}
+use Prim.Native.Nat.{ℕ, zero, suc, _+_, _-_, _*_}
 use lib.IntN.{ℤ, pos}
 use lib.ListN.{length, getD, set, take}
 use Rattle.std.specs.declared.option.Option.{Option}
@@ -12,7 +12,7 @@ use Rattle.language.specs.Types.{Name}
 use Rattle.language.specs.Scope.{find, find-function}
 use Rattle.language.specs.Arithmetic.{calculated, has-divisor, same-number}
 use Rattle.language.specs.Values.{Value, number, empty, link, Held, holding, number-of, value-of, values-of, handed}
-use Rattle.language.specs.Questions.{Next, moves, calls, prints, grows, divides, ends, Machine}
+use Rattle.language.specs.Questions.{Next, moves, calls, prints, grows, divides, ends, Rule, spent, Stint, Stop, within}
 
 -- a region name in scope, and the position that it means
 pub record Placed : Type 0 where
@@ -156,8 +156,13 @@ abbrev pub script-size : Script → ℕ
 script-size [] = 1
 script-size (g ∷ F) = block-size (g .body) + script-size F
 
-abbrev pub plain : Machine State
-plain = record { next = next; rest = λ s. block-size (s .block) + frames-size (s .frames); widest = λ s. script-size (s .script) }
+-- as many words as a stint can take: what is left, and what each call that a unit pays for can add
+abbrev pub enough : Stint State → ℕ
+enough t = suc (block-size (t .run .block) + frames-size (t .run .frames) + t .units * script-size (t .run .script))
+
+-- what a stint comes to; that many words always suffice, so that the second case never comes
+abbrev pub carried : Rule → Stint State → Stop State
+carried grants t = elim (within next grants (enough t) t) [ Some e ↦ e | None ↦ record { ending = spent; result = pos 0; place = 0; stint = t } ]
 
 -- `main` on a number
 abbrev pub main : Ident

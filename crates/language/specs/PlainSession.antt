@@ -8,8 +8,8 @@ use lib.ListN.{length, drop}
 use Rattle.std.specs.declared.option.Option.{Option}
 use Rattle.std.specs.declared.option.Option.the-variants.{Some, None}
 use Rattle.language.specs.Syntax.{Script}
-use Rattle.language.specs.Questions.{Rule, Ending, goes-on, Stint, Stop, carried, begun}
-use Rattle.language.specs.Plain.{State, plain, started}
+use Rattle.language.specs.Questions.{Rule, Ending, goes-on, Stint, Stop, begun}
+use Rattle.language.specs.Plain.{State, carried, started}
 
 -- the refusals of the calls
 pub data Refusal : Type 0 where
@@ -90,7 +90,7 @@ start-call n s = elim (s .run) [
 -- what a resume that is not refused answers
 abbrev pub resuming : Rule → Run → ℕ → List ℤ → Session → Answer × Session
 resuming grants c units entries s =
-    let e = carried plain grants (begun (c .at) units (length entries)) in
+    let e = carried grants (begun (c .at) units (length entries)) in
     (told (telling e entries), record { loaded = s .loaded; run = run-after e (c .used) })
 
 -- resume: is a run under way, and are the units used since the start, plus these, at most 4,294,967,295?

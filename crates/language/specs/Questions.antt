@@ -1,7 +1,8 @@
 -- The questions that a run is put while it is resumed, in their order, and its endings.
+use mathlib.Core.Path.{_≡_}
 use mathlib.Core.Bool.{Bool, true, false}
 use mathlib.Core.List.{List, [], _∷_, _++_}
-use Prim.Native.Nat.{ℕ, zero, suc, _+_, _*_}
+use Prim.Native.Nat.{ℕ, zero, suc}
 use lib.Dec.{ltb}
 use lib.IntN.{ℤ, pos}
 use Rattle.std.specs.declared.option.Option.{Option}
@@ -101,29 +102,20 @@ module _ {S : Type 0} where
   asked grants (divides p z s) t = elim (same-number z (pos 0)) [ true ↦ halt zero-divisor p t | false ↦ moved s t ]
   asked grants (ends z) t = stop (record { ending = finished; result = z; place = 0; stint = t })
 
--- a way to run: the next word of a run; how many words are left to it, calls apart; how many a call can add
-pub record Machine (S : Type 0) : Type 0 where
-  pub next : S → Next S
-  pub rest : S → ℕ
-  pub widest : S → ℕ
-
-module _ {S : Type 0} (M : Machine S) (grants : Rule) where
+module _ {S : Type 0} (next : S → Next S) (grants : Rule) where
   -- one word further
   abbrev pub turn : Stint S → Turn S
-  turn t = asked grants (M .next (t .run)) t
+  turn t = asked grants (next (t .run)) t
 
-  -- word by word until a question is answered no or `main` has ended; none where that takes more than `steps` words
+  -- word by word a stint comes to a stop
+  pub data Comes-to : Stint S → Stop S → Type 0 where
+    here : {t : Stint S} {e : Stop S} → turn t ≡ stop e → Comes-to t e
+    later : {t u : Stint S} {e : Stop S} → turn t ≡ on u → Comes-to u e → Comes-to t e
+
+  -- the same by computing: none where it takes more than so many words
   abbrev pub within : ℕ → Stint S → Option (Stop S)
   within zero t = None
-  within (suc steps) t = elim (turn t) [ on u ↦ within steps u | stop e ↦ Some e ]
-
-  -- as many words as a stint can take: each call uses a unit and adds so many
-  abbrev pub enough : Stint S → ℕ
-  enough t = suc (M .rest (t .run) + t .units * M .widest (t .run))
-
-  -- what a resume comes to; that many words always suffice, so that the second case never comes
-  abbrev pub carried : Stint S → Stop S
-  carried t = elim (within (enough t) t) [ Some e ↦ e | None ↦ record { ending = spent; result = pos 0; place = 0; stint = t } ]
+  within (suc words) t = elim (turn t) [ on u ↦ within words u | stop e ↦ Some e ]
 
 -- a stint begins with units and entries
 abbrev pub begun : {S : Type 0} → S → ℕ → ℕ → Stint S

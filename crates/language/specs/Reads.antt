@@ -1,9 +1,8 @@
 -- How a list is read out of the regions: from its reference, its type, the positions that region names mean, and the words.
 use mathlib.Core.Path.{_≡_}
 use mathlib.Core.List.{List, [], _∷_}
-use mathlib.Core.Logic.{_≢_}
 use Prim.Native.Nat.{ℕ, zero, suc, _+_, _-_, _*_, _/_, _%_, _<_}
-use lib.ListN.{length, getD}
+use lib.IntN.{ℤ}
 use mir.Syntax.{w32}
 use mir.Val.{toZ}
 use Rattle.std.specs.declared.option.Option.{Option}
@@ -40,10 +39,10 @@ abbrev pub meant : List Placed → Name → Option ℕ
 meant ρ r = elim (find (λ q. q .name) r ρ) [ Some q ↦ Some (q .position) | None ↦ None ]
 
 -- the word w is the value v at a type whose region names mean positions: a number as itself, a list as a reference into the region that its type names,
--- to the word of its head and the word of its tail
+-- to the word of its head and, behind it, the word of its tail
 pub data Reads (rs : List (List ℕ)) (ρ : List Placed) : RegionType → ℕ → Value → Type 0 where
-  reads-number : (w : ℕ) → Reads rs ρ int w (number (toZ w32 w))
-  reads-empty : {r : Name} {T : RegionType} → Reads rs ρ (list r T) 0 empty
-  reads-link : {r : Name} {T : RegionType} {v v′ : Value} (w h t : ℕ) → meant ρ r ≡ Some (region-of (suc w)) →
-      word-at rs (region-of (suc w)) (place-of (suc w)) ≡ Some h → word-at rs (region-of (suc w)) (suc (place-of (suc w))) ≡ Some t →
-      Reads rs ρ T h v → Reads rs ρ (list r T) t v′ → Reads rs ρ (list r T) (suc w) (link v v′)
+  reads-number : {w : ℕ} {z : ℤ} → z ≡ toZ w32 w → Reads rs ρ int w (number z)
+  reads-empty : {r : Name} {T : RegionType} {w : ℕ} → w ≡ 0 → Reads rs ρ (list r T) w empty
+  reads-link : {r : Name} {T : RegionType} {w : ℕ} {v v′ : Value} (h t : ℕ) → 0 < w → meant ρ r ≡ Some (region-of w) →
+      word-at rs (region-of w) (place-of w) ≡ Some h → word-at rs (region-of w) (suc (place-of w)) ≡ Some t →
+      Reads rs ρ T h v → Reads rs ρ (list r T) t v′ → Reads rs ρ (list r T) w (link v v′)

@@ -1,7 +1,7 @@
 -- The run of a script without region words, on values alone. A function that is not there has a fixed meaning, as in the plain run.
 use mathlib.Core.Bool.{Bool, true, false}
 use mathlib.Core.List.{List, [], _∷_, map}
-use Prim.Native.Nat.{ℕ, suc, _+_}
+use Prim.Native.Nat.{ℕ, suc}
 use lib.IntN.{ℤ, pos}
 use Rattle.std.specs.declared.option.Option.{Option}
 use Rattle.std.specs.declared.option.Option.the-variants.{Some, None}
@@ -9,7 +9,7 @@ use Rattle.language.specs.Syntax.{Ident, Atom, num, Op}
 use Rattle.language.specs.Scope.{find}
 use Rattle.language.specs.Arithmetic.{calculated, has-divisor}
 use Rattle.language.specs.Values.{Value, number, empty, link, Held, holding, number-of, value-of, values-of, handed}
-use Rattle.language.specs.Questions.{Next, moves, calls, prints, grows, divides, ends, Machine}
+use Rattle.language.specs.Questions.{Next, moves, calls, prints, divides, ends, Stint, Stop}
 use Rattle.language.specs.Plain.{Frame, inner, closing, returning, State, chosen, main}
 use Rattle.language.specs.Struck.{Bare-right, Bare-block, Bare-param, Bare-fun, Bare-script, int, atom, oper, nil, cons, call, test, block, split, last, bind, print, struck-block, struck-script}
 
@@ -78,35 +78,6 @@ bare-block F (print p a b) E K = prints p (number-of (value-of E a)) (bare F b E
 abbrev pub bare-next : Bare-state → Next Bare-state
 bare-next s = bare-block (s .script) (s .left) (s .variables) (s .frames)
 
--- how many words a block has
-abbrev mutual
-  pub bare-block-size : Bare-block → ℕ
-  bare-block-size (last a) = 1
-  bare-block-size (bind x r b) = suc (bare-right-size r + bare-block-size b)
-  bare-block-size (print p a b) = suc (bare-block-size b)
-
-  pub bare-right-size : Bare-right → ℕ
-  bare-right-size (atom a) = 0
-  bare-right-size (oper p o a b) = 0
-  bare-right-size (nil p T) = 0
-  bare-right-size (cons p a b) = 0
-  bare-right-size (call p f xs) = 0
-  bare-right-size (test p a b c) = bare-block-size b + bare-block-size c
-  bare-right-size (block b) = bare-block-size b
-  bare-right-size (split p a b h t c) = bare-block-size b + bare-block-size c
-
-abbrev pub bare-frames-size : List Bare-frame → ℕ
-bare-frames-size [] = 0
-bare-frames-size (inside x b E ∷ K) = bare-block-size b + bare-frames-size K
-bare-frames-size (caller x b E ∷ K) = bare-block-size b + bare-frames-size K
-
-abbrev pub bare-script-size : Bare-script → ℕ
-bare-script-size [] = 1
-bare-script-size (g ∷ F) = bare-block-size (g .body) + bare-script-size F
-
-abbrev pub struck-out : Machine Bare-state
-struck-out = record { next = bare-next; rest = λ s. bare-block-size (s .left) + bare-frames-size (s .frames); widest = λ s. bare-script-size (s .script) }
-
 -- `main` on a number
 abbrev pub bare-started : Bare-script → ℤ → Bare-state
 bare-started F n = let f = bare-function-of F main in bare F (f .body) (handed (bare-param-names (f .params)) (number n ∷ [])) []
@@ -119,3 +90,9 @@ struck-frame (returning x b E ρ) = caller x (struck-block b) E
 
 abbrev pub struck-state : State → Bare-state
 struck-state s = bare (struck-script (s .script)) (struck-block (s .block)) (s .variables) (map struck-frame (s .frames))
+
+abbrev pub struck-stint : Stint State → Stint Bare-state
+struck-stint t = record { run = struck-state (t .run); units = t .units; entries = t .entries; used = t .used; printed = t .printed }
+
+abbrev pub struck-stop : Stop State → Stop Bare-state
+struck-stop e = record { ending = e .ending; result = e .result; place = e .place; stint = struck-stint (e .stint) }
