@@ -1,2 +1,4 @@
 pub mod RunExamples
 pub mod ReadsOnce
+pub mod Falls
+pub mod OneStop
