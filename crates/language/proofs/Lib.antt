@@ -1,4 +1,6 @@
 pub mod RunExamples
 pub mod ReadsOnce
 pub mod Falls
+pub mod Turns
 pub mod OneStop
+pub mod Struck

@@ -10,28 +10,11 @@ use lib.IntN.{ℤ, pos}
 use Rattle.std.specs.declared.option.Option.{Option}
 use Rattle.std.specs.declared.option.Option.the-variants.{Some, None}
 use Rattle.language.specs.Arithmetic.{same-number}
-use Rattle.language.specs.Questions.{Rule, Next, moves, calls, prints, grows, divides, ends, Stint, Stop, Turn, on, stop, halt, asked, charged, filled, moved, turn, Comes-to, here, later, within}
+use Rattle.language.specs.Questions.{Rule, too-deep, exhausted, zero-divisor, Next, moves, calls, prints, grows, divides, ends, Stint, Stop, Turn, on, stop, halt, asked, charged, filled, moved, turn, Comes-to, here, later, within}
 use Rattle.language.specs.Plain.{State, next, script-size, enough, carried}
 use Rattle.language.specs.RunLaws.{One-stop}
+use Rattle.language.proofs.Turns.{on-is, not-both, one-stop}
 use Rattle.language.proofs.Falls.{rest, Less, Fall, falls}
-
-module _ {S : Type 0} where
-  pub on-is : {t u : Stint S} → on t ≡ on u → t ≡ u
-  on-is e = cc
-
-  pub stop-is : {d e : Stop S} → stop d ≡ stop e → d ≡ e
-  stop-is e = cc
-
-  pub not-both : {A : Type 0} {t : Stint S} {e : Stop S} → on t ≡ stop e → A
-  not-both e = let z : _≡_ {A = ℕ} 0 1 = cc in absurd (omega arith)
-
-module _ {S : Type 0} {next-of : S → Next S} {grants : Rule} where
-  -- two stops of one stint are one
-  pub one-stop : {t : Stint S} {d e : Stop S} → Comes-to next-of grants t d → Comes-to next-of grants t e → d ≡ e
-  one-stop (here p) (here q) = stop-is (sym p ∙ q)
-  one-stop (here p) (later q c) = not-both (sym q ∙ p)
-  one-stop (later p b) (here q) = not-both (sym p ∙ q)
-  one-stop {e = e} (later p b) (later q c) = one-stop b (subst (λ u. Comes-to next-of grants u e) (on-is (sym q ∙ p)) c)
 
 -- the words that a stint can take
 abbrev left : Stint State → ℕ
@@ -53,18 +36,18 @@ asked-falls : (grants : Rule) (n : Next State) (t u : Stint State) → Fall (t .
 asked-falls grants (moves s) t u h e = moved-falls s t u h e
 asked-falls grants (calls p n s) t u h e = by (ltb n 64) e
   where
-  by : (b : Bool) → elim b [ true ↦ charged (t .units) p s t | false ↦ halt Rattle.language.specs.Questions.too-deep p t ] ≡ on u → left u < left t
+  by : (b : Bool) → elim b [ true ↦ charged (t .units) p s t | false ↦ halt too-deep p t ] ≡ on u → left u < left t
   by true e′ = charged-falls (t .units) p s t u refl h e′
   by false e′ = not-both (sym e′)
 asked-falls grants (prints p z s) t u h e = filled-falls (t .entries) p z s t u h e
 asked-falls grants (grows p α s) t u h e = by (grants α) e
   where
-  by : (b : Bool) → elim b [ true ↦ moved s t | false ↦ halt Rattle.language.specs.Questions.exhausted p t ] ≡ on u → left u < left t
+  by : (b : Bool) → elim b [ true ↦ moved s t | false ↦ halt exhausted p t ] ≡ on u → left u < left t
   by true e′ = moved-falls s t u h e′
   by false e′ = not-both (sym e′)
 asked-falls grants (divides p z s) t u h e = by (same-number z (pos 0)) e
   where
-  by : (b : Bool) → elim b [ true ↦ halt Rattle.language.specs.Questions.zero-divisor p t | false ↦ moved s t ] ≡ on u → left u < left t
+  by : (b : Bool) → elim b [ true ↦ halt zero-divisor p t | false ↦ moved s t ] ≡ on u → left u < left t
   by true e′ = not-both (sym e′)
   by false e′ = moved-falls s t u h e′
 asked-falls grants (ends z) t u h e = not-both (sym e)

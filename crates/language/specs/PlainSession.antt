@@ -87,17 +87,19 @@ start-call n s = elim (s .run) [
     Some c ↦ refusing under-way s
   | None ↦ elim (s .loaded) [ None ↦ refusing not-loaded s | Some F ↦ (done, record { loaded = s .loaded; run = Some (record { at = started F n; used = 0 }) }) ] ]
 
--- what a resume that is not refused answers
-abbrev pub resuming : Rule → Run → ℕ → List ℤ → Session → Answer × Session
-resuming grants c units entries s =
-    let e = carried grants (begun (c .at) units (length entries)) in
-    (told (telling e entries), record { loaded = s .loaded; run = run-after e (c .used) })
+-- what a resume that is not refused answers, and the session after it, where the run has come to a stop
+abbrev pub stopped : Stop State → Run → List ℤ → Session → Answer × Session
+stopped e c entries s = (told (telling e entries), record { loaded = s .loaded; run = run-after e (c .used) })
+
+-- the run of a session, resumed with units and a list
+abbrev pub resumed : Run → ℕ → List ℤ → Stint State
+resumed c units entries = begun (c .at) units (length entries)
 
 -- resume: is a run under way, and are the units used since the start, plus these, at most 4,294,967,295?
 abbrev pub resume-call : Rule → ℕ → List ℤ → Session → Answer × Session
 resume-call grants units entries s = elim (s .run) [
     None ↦ refusing not-under-way s
-  | Some c ↦ elim (leb (c .used + units) 4294967295) [ true ↦ resuming grants c units entries s | false ↦ refusing too-many-units s ] ]
+  | Some c ↦ elim (leb (c .used + units) 4294967295) [ true ↦ stopped (carried grants (resumed c units entries)) c entries s | false ↦ refusing too-many-units s ] ]
 
 -- stop: is a run under way? then it is dropped
 abbrev pub stop-call : Session → Answer × Session

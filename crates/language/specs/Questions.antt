@@ -107,6 +107,11 @@ module _ {S : Type 0} (next : S → Next S) (grants : Rule) where
   abbrev pub turn : Stint S → Turn S
   turn t = asked grants (next (t .run)) t
 
+  -- word by word a stint comes to another
+  pub data Reaches : Stint S → Stint S → Type 0 where
+    already : {t : Stint S} → Reaches t t
+    onward : {t u v : Stint S} → turn t ≡ on u → Reaches u v → Reaches t v
+
   -- word by word a stint comes to a stop
   pub data Comes-to : Stint S → Stop S → Type 0 where
     here : {t : Stint S} {e : Stop S} → turn t ≡ stop e → Comes-to t e

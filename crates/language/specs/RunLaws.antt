@@ -4,11 +4,14 @@ use mathlib.Core.Bool.{Bool, true}
 use mathlib.Core.List.{List, [], _∷_, _++_}
 use Prim.Native.Nat.{ℕ, _+_, _≤_}
 use lib.IntN.{ℤ}
+use Rattle.std.specs.declared.option.Option.{Option}
+use Rattle.std.specs.declared.option.Option.the-variants.{Some}
 use Rattle.language.specs.Syntax.{Script}
 use Rattle.language.specs.Types.{RegionType}
 use Rattle.language.specs.Values.{Value}
-use Rattle.language.specs.Questions.{Rule, Ending, spent, full, exhausted, Stint, Stop, Comes-to, within}
+use Rattle.language.specs.Questions.{Rule, Ending, spent, full, exhausted, Stint, Stop, Reaches, Comes-to}
 use Rattle.language.specs.Plain.{State, Placed, next, enough, carried, started}
+use Rattle.language.specs.PlainSession.{Session, Run, Answer, resume, answered, stopped, resumed}
 use Rattle.language.specs.Struck.{struck-script}
 use Rattle.language.specs.StruckRun.{bare-next, bare-started, struck-state, struck-stint, struck-stop}
 use Rattle.language.specs.Reads.{Reads}
@@ -16,6 +19,21 @@ use Rattle.language.specs.Reads.{Reads}
 -- Every stint comes to a stop, the one that `carried` computes, and to no other.
 abbrev pub One-stop : Type 0
 One-stop = (grants : Rule) (t : Stint State) → Comes-to next grants t (carried grants t) × ((e : Stop State) → Comes-to next grants t e → e ≡ carried grants t)
+
+-- So every call has one answer: a resume that is not refused answers by the one stop that its run comes to.
+abbrev pub One-answer : Type 0
+One-answer = (grants : Rule) (units : ℕ) (entries : List ℤ) (s : Session) (c : Run) (e : Stop State) → s .run ≡ Some c → c .used + units ≤ 4294967295 →
+    Comes-to next grants (resumed c units entries) e → answered grants (resume units entries) s ≡ stopped e c entries s
+
+-- Striking out, as long as nothing is denied: whatever a stint reaches, the script without region words reaches too, over whatever rule, with the same
+-- values, numbers printed and units used; and it comes to the same stop, unless the rule has denied the account.
+pub record Struck-alike : Type 0 where
+  pub starts : (F : Script) (n : ℤ) → struck-state (started F n) ≡ bare-started (struck-script F) n
+  pub reaches : (grants any : Rule) (t u : Stint State) → Reaches next grants t u → Reaches bare-next any (struck-stint t) (struck-stint u)
+  pub stops : (grants any : Rule) (t : Stint State) (e : Stop State) → Comes-to next grants t e → (e .ending ≡ exhausted → ⊥) →
+      Comes-to bare-next any (struck-stint t) (struck-stop e)
+  pub denied : (grants any : Rule) (t : Stint State) (e : Stop State) → Comes-to next grants t e → e .ending ≡ exhausted →
+      Reaches bare-next any (struck-stint t) (struck-stint (e .stint))
 
 -- From a word, its type and what its region names mean, at most one value is read.
 abbrev pub Reads-once : Type 0
