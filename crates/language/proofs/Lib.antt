@@ -4,3 +4,6 @@ pub mod Falls
 pub mod Turns
 pub mod OneStop
 pub mod Struck
+pub mod Counts
+pub mod GoesOn
+pub mod OneAnswer

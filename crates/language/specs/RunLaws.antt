@@ -4,12 +4,13 @@ use mathlib.Core.Bool.{Bool, true}
 use mathlib.Core.List.{List, [], _∷_, _++_}
 use Prim.Native.Nat.{ℕ, _+_, _≤_}
 use lib.IntN.{ℤ}
+use lib.ListN.{length}
 use Rattle.std.specs.declared.option.Option.{Option}
 use Rattle.std.specs.declared.option.Option.the-variants.{Some}
 use Rattle.language.specs.Syntax.{Script}
 use Rattle.language.specs.Types.{RegionType}
 use Rattle.language.specs.Values.{Value}
-use Rattle.language.specs.Questions.{Rule, Ending, spent, full, exhausted, Stint, Stop, Reaches, Comes-to}
+use Rattle.language.specs.Questions.{Rule, Ending, spent, full, exhausted, Stint, Stop, Reaches, Comes-to, begun}
 use Rattle.language.specs.Plain.{State, Placed, next, enough, carried, started}
 use Rattle.language.specs.PlainSession.{Session, Run, Answer, resume, answered, stopped, resumed}
 use Rattle.language.specs.Struck.{struck-script}
@@ -34,6 +35,26 @@ pub record Struck-alike : Type 0 where
       Comes-to bare-next any (struck-stint t) (struck-stop e)
   pub denied : (grants any : Rule) (t : Stint State) (e : Stop State) → Comes-to next grants t e → e .ending ≡ exhausted →
       Reaches bare-next any (struck-stint t) (struck-stint (e .stint))
+
+-- What a resume counts: units used and units left are those given, and so for prints and entries; spent has no unit left, and list full no entry.
+pub record Resume-counts : Type 0 where
+  pub units : (grants : Rule) (s : State) (n l : ℕ) (e : Stop State) → Comes-to next grants (begun s n l) e → e .stint .used + e .stint .units ≡ n
+  pub prints : (grants : Rule) (s : State) (n l : ℕ) (e : Stop State) → Comes-to next grants (begun s n l) e → length (e .stint .printed) + e .stint .entries ≡ l
+  pub at-spent : (grants : Rule) (s : State) (n l : ℕ) (e : Stop State) → Comes-to next grants (begun s n l) e → e .ending ≡ spent → e .stint .units ≡ 0
+  pub at-full : (grants : Rule) (s : State) (n l : ℕ) (e : Stop State) → Comes-to next grants (begun s n l) e → e .ending ≡ full → e .stint .entries ≡ 0
+
+-- two resumes as one: the second's ending, with the counts and the numbers printed added up
+abbrev pub joined : Stop State → Stop State → Stop State
+joined d e = record {
+    ending = e .ending; result = e .result; place = e .place;
+    stint = record {
+      run = e .stint .run; units = e .stint .units; entries = e .stint .entries; used = d .stint .used + e .stint .used; printed = d .stint .printed ++ e .stint .printed } }
+
+-- A run that stopped goes on at the same word: resumed with what was left and some more, it does what it would have done with that from the first.
+abbrev pub Goes-on : Type 0
+Goes-on = (grants : Rule) (s : State) (n l more-units more-entries : ℕ) (d e : Stop State) → Comes-to next grants (begun s n l) d →
+    Comes-to next grants (begun (d .stint .run) (d .stint .units + more-units) (d .stint .entries + more-entries)) e →
+    Comes-to next grants (begun s (n + more-units) (l + more-entries)) (joined d e)
 
 -- From a word, its type and what its region names mean, at most one value is read.
 abbrev pub Reads-once : Type 0

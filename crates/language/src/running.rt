@@ -1,5 +1,48 @@
-// What holds of the plain run and the plain session, each law named by the contract of a function.
+// What holds of the plain run, of striking out and of reading lists, each law named by the contract of a function.
+ghost use Rattle.language.specs.RunLaws.{One-stop, One-answer, Resume-counts, Goes-on, Struck-alike, Reads-once};
 ghost use Rattle.language.specs.RunExamples.{Worked};
+
+// every resume comes to exactly one stop, and its words never run out
+pub fn one_stop() -> u8
+    ensures { λ _. ⌜ One-stop ⌝ }
+{
+    0
+}
+
+// a resume that is not refused answers by that stop
+pub fn one_answer() -> u8
+    ensures { λ _. ⌜ One-answer ⌝ }
+{
+    0
+}
+
+// units and entries are neither lost nor invented
+pub fn resume_counts() -> u8
+    ensures { λ _. ⌜ Resume-counts ⌝ }
+{
+    0
+}
+
+// a run goes on at the word where it stopped
+pub fn goes_on() -> u8
+    ensures { λ _. ⌜ Goes-on ⌝ }
+{
+    0
+}
+
+// striking out region words leaves values, prints, results, endings and places as they are
+pub fn struck_alike() -> u8
+    ensures { λ _. ⌜ Struck-alike ⌝ }
+{
+    0
+}
+
+// a word reads as at most one value
+pub fn reads_once() -> u8
+    ensures { λ _. ⌜ Reads-once ⌝ }
+{
+    0
+}
 
 // the worked examples of runs
 pub fn worked_runs() -> u8
