@@ -12,7 +12,7 @@ use Rattle.language.specs.Arithmetic.{same-number}
 use Rattle.language.specs.Questions.{Rule, Ending, too-deep, exhausted, zero-divisor, Next, moves, calls, prints, grows, divides, ends, Stint, Stop, Turn, on, stop, halt, asked, charged, filled, moved, turn, Reaches, already, onward, Comes-to, here, later, begun}
 use Rattle.language.specs.Plain.{State, next}
 use Rattle.language.specs.RunLaws.{Goes-on, joined}
-use Rattle.language.proofs.Turns.{on-is, stop-is, not-both, reached}
+use Rattle.language.proofs.Turns.{on-is, stop-is, not-both, reached, reaches-comes}
 
 module _ {S : Type 0} (a b : ℕ) where
   -- with a more units and b more entries
@@ -99,12 +99,6 @@ module _ {S : Type 0} (k : ℕ) (zs : List ℤ) where
   comes-since : {next-of : S → Next S} {grants : Rule} {t : Stint S} {d : Stop S} → Comes-to next-of grants t d → Comes-to next-of grants (since t) (since-stop d)
   comes-since {next-of = next-of} {grants = grants} (here {t = t} e) = here (asked-since grants (next-of (t .run)) t ∙ ap since-turn e)
   comes-since {next-of = next-of} {grants = grants} (later {t = t} e c) = later (asked-since grants (next-of (t .run)) t ∙ ap since-turn e) (comes-since c)
-
-module _ {S : Type 0} {next-of : S → Next S} {grants : Rule} where
-  -- what is reached comes to what comes after
-  reaches-comes : {t u : Stint S} {d : Stop S} → Reaches next-of grants t u → Comes-to next-of grants u d → Comes-to next-of grants t d
-  reaches-comes already c = c
-  reaches-comes (onward e r) c = later e (reaches-comes r c)
 
 -- the second resume, told from where the first stopped
 begun-since : (d : Stint State) (a b : ℕ) → since (d .used) (d .printed) (begun (d .run) (d .units + a) (d .entries + b)) ≡ more a b d

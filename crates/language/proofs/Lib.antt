@@ -7,3 +7,5 @@ pub mod Struck
 pub mod Counts
 pub mod GoesOn
 pub mod OneAnswer
+pub mod Exhausted
+pub mod References

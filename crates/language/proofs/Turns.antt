@@ -58,3 +58,13 @@ module _ {S : Type 0} {next-of : S → Next S} {grants : Rule} where
   pub reached : {t : Stint S} {d : Stop S} → Comes-to next-of grants t d → Reaches next-of grants t (d .stint)
   reached (here {t = t} {e = d} e) = subst (λ u. Reaches next-of grants t u) (sym (asked-stays grants (next-of (t .run)) t d e)) already
   reached (later e c) = onward e (reached c)
+
+  -- its last turn is the stop
+  pub last-turn : {t : Stint S} {d : Stop S} → Comes-to next-of grants t d → turn next-of grants (d .stint) ≡ stop d
+  last-turn (here {t = t} {e = d} e) = subst (λ u. turn next-of grants u ≡ stop d) (sym (asked-stays grants (next-of (t .run)) t d e)) e
+  last-turn (later e c) = last-turn c
+
+  -- what is reached comes to what comes after
+  pub reaches-comes : {t u : Stint S} {d : Stop S} → Reaches next-of grants t u → Comes-to next-of grants u d → Comes-to next-of grants t d
+  reaches-comes already c = c
+  reaches-comes (onward e r) c = later e (reaches-comes r c)

@@ -10,4 +10,5 @@ pub mod Struck
 pub mod StruckRun
 pub mod Reads
 pub mod RunLaws
+pub mod RunScripts
 pub mod RunExamples

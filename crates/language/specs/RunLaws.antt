@@ -1,8 +1,8 @@
 -- Laws that hold the plain run, the striking out and the reading of lists to the subject.
 use mathlib.Core.Path.{_≡_}
-use mathlib.Core.Bool.{Bool, true}
+use mathlib.Core.Bool.{Bool, false}
 use mathlib.Core.List.{List, [], _∷_, _++_}
-use Prim.Native.Nat.{ℕ, _+_, _≤_}
+use Prim.Native.Nat.{ℕ, _+_, _≤_, _<_}
 use lib.IntN.{ℤ}
 use lib.ListN.{length}
 use Rattle.std.specs.declared.option.Option.{Option}
@@ -10,12 +10,12 @@ use Rattle.std.specs.declared.option.Option.the-variants.{Some}
 use Rattle.language.specs.Syntax.{Script}
 use Rattle.language.specs.Types.{RegionType}
 use Rattle.language.specs.Values.{Value}
-use Rattle.language.specs.Questions.{Rule, Ending, spent, full, exhausted, Stint, Stop, Reaches, Comes-to, begun}
-use Rattle.language.specs.Plain.{State, Placed, next, enough, carried, started}
+use Rattle.language.specs.Questions.{Rule, spent, full, exhausted, grows, Stint, Stop, Reaches, Comes-to, begun}
+use Rattle.language.specs.Plain.{State, Placed, next, carried, started}
 use Rattle.language.specs.PlainSession.{Session, Run, Answer, resume, answered, stopped, resumed}
 use Rattle.language.specs.Struck.{struck-script}
 use Rattle.language.specs.StruckRun.{bare-next, bare-started, struck-state, struck-stint, struck-stop}
-use Rattle.language.specs.Reads.{Reads}
+use Rattle.language.specs.Reads.{Reads, reference, region-of, place-of}
 
 -- Every stint comes to a stop, the one that `carried` computes, and to no other.
 abbrev pub One-stop : Type 0
@@ -55,6 +55,27 @@ abbrev pub Goes-on : Type 0
 Goes-on = (grants : Rule) (s : State) (n l more-units more-entries : ℕ) (d e : Stop State) → Comes-to next grants (begun s n l) d →
     Comes-to next grants (begun (d .stint .run) (d .stint .units + more-units) (d .stint .entries + more-entries)) e →
     Comes-to next grants (begun s (n + more-units) (l + more-entries)) (joined d e)
+
+-- the stint comes to a word that would open a region or add words, and the rule denies the account after it
+pub record Denial (grants : Rule) (t : Stint State) : Type 0 where
+  pub stint : Stint State
+  pub reached : Reaches next grants t stint
+  pub place : ℕ
+  pub after : State
+  pub word : next (stint .run) ≡ grows place (after .account) after
+  pub denied : grants (after .account) ≡ false
+
+-- A resume answers exhausted exactly then.
+abbrev pub Exhausted-exactly : Type 0
+Exhausted-exactly = (grants : Rule) (t : Stint State) →
+    (carried grants t .ending ≡ exhausted → Denial grants t) × (Denial grants t → carried grants t .ending ≡ exhausted)
+
+-- A reference says its position and its place, in a word of 32 bits that is not 0, for all regions and words that a rule can grant.
+pub record Reference-says : Type 0 where
+  pub position : (p i : ℕ) → i < 65536 → region-of (reference p i) ≡ p
+  pub place : (p i : ℕ) → i < 65536 → place-of (reference p i) ≡ i
+  pub fits : (p i : ℕ) → p < 64 → i < 65536 → reference p i < 4294967296
+  pub some : (p i : ℕ) → 0 < reference p i
 
 -- From a word, its type and what its region names mean, at most one value is read.
 abbrev pub Reads-once : Type 0
