@@ -12,7 +12,7 @@ use Rattle.language.specs.Values.{Value, Held, value-of}
 use Rattle.language.specs.Questions.{Rule, Ending, spent, full, too-deep, exhausted, zero-divisor, Next, moves, calls, prints, grows, divides, ends, Stint, Stop, Turn, on, stop, halt, asked, charged, filled, moved, turn, Reaches, already, onward, Comes-to, here, later}
 use Rattle.language.specs.Plain.{Placed, Frame, inner, closing, returning, State, after-block, at-right, at-block, next, carried}
 use Rattle.language.specs.RunLaws.{Denial, Exhausted-exactly}
-use Rattle.language.proofs.Turns.{stop-is, not-both, one-stop, reached, last-turn, reaches-comes}
+use Rattle.language.proofs.Turns.{stop-is, not-both, one-stop, reached, last-turn, reaches-comes, Halts, deep, no-unit, no-entry, denied, by-zero, Outcome, free, paid, put, granted, divided, halts, finishes, outcome}
 use Rattle.language.proofs.OneStop.{comes}
 
 -- the word asks about the account of the run behind it
@@ -62,39 +62,30 @@ record Denied-word (grants : Rule) (n : Next State) : Type 0 where
   pub word : n ≡ grows place account after
   pub denied : grants account ≡ false
 
-charged-not : (n p : ℕ) (s : State) (t : Stint State) (d : Stop State) → charged n p s t ≡ stop d → d .ending ≡ exhausted → _≡_ {A = ℕ} 0 1
-charged-not zero p s t d e h = let k : spent ≡ exhausted = ap (λ x. x .ending) (stop-is e) ∙ h in cc
-charged-not (suc n) p s t d e h = not-both e
+never : {A : Type 0} → _≡_ {A = ℕ} 0 1 → A
+never e = absurd (omega arith)
 
-filled-not : (n p : ℕ) (z : ℤ) (s : State) (t : Stint State) (d : Stop State) → filled n p z s t ≡ stop d → d .ending ≡ exhausted → _≡_ {A = ℕ} 0 1
-filled-not zero p z s t d e h = let k : full ≡ exhausted = ap (λ x. x .ending) (stop-is e) ∙ h in cc
-filled-not (suc n) p z s t d e h = not-both e
+halts-denied : {grants : Rule} {t : Stint State} {n : Next State} {e : Ending} {p : ℕ} → Halts grants t n e p → e ≡ exhausted → Denied-word grants n
+halts-denied (deep h) e = never (cc)
+halts-denied (no-unit h) e = never (cc)
+halts-denied (no-entry h) e = never (cc)
+halts-denied (denied {p = p} {α = α} {s = s} h) e = record { place = p; account = α; after = s; word = refl; denied = h }
+halts-denied (by-zero h) e = never (cc)
 
-denied-word : (grants : Rule) (n : Next State) (t : Stint State) (d : Stop State) → asked grants n t ≡ stop d → d .ending ≡ exhausted → Denied-word grants n
-denied-word grants (moves s) t d e h = not-both e
-denied-word grants (calls p n s) t d e h = by (ltb n 64) e
-  where
-  by : (c : Bool) → elim c [ true ↦ charged (t .units) p s t | false ↦ halt too-deep p t ] ≡ stop d → Denied-word grants (calls p n s)
-  by true k = let z = charged-not (t .units) p s t d k h in absurd (omega arith)
-  by false k = let z : _≡_ {A = ℕ} 0 1 = (let j : too-deep ≡ exhausted = ap (λ x. x .ending) (stop-is k) ∙ h in cc) in absurd (omega arith)
-denied-word grants (prints p z s) t d e h = let o = filled-not (t .entries) p z s t d e h in absurd (omega arith)
-denied-word grants (grows p α s) t d e h = by (grants α) refl e
-  where
-  by : (c : Bool) → grants α ≡ c → elim c [ true ↦ moved s t | false ↦ halt exhausted p t ] ≡ stop d → Denied-word grants (grows p α s)
-  by true g k = not-both k
-  by false g k = record { place = p; account = α; after = s; word = refl; denied = g }
-denied-word grants (divides p z s) t d e h = by (same-number z (pos 0)) e
-  where
-  by : (c : Bool) → elim c [ true ↦ halt zero-divisor p t | false ↦ moved s t ] ≡ stop d → Denied-word grants (divides p z s)
-  by true k = let o : _≡_ {A = ℕ} 0 1 = (let j : zero-divisor ≡ exhausted = ap (λ x. x .ending) (stop-is k) ∙ h in cc) in absurd (omega arith)
-  by false k = not-both k
-denied-word grants (ends z) t d e h = let o : _≡_ {A = ℕ} 0 1 = (let j : Rattle.language.specs.Questions.finished ≡ exhausted = ap (λ x. x .ending) (stop-is e) ∙ h in cc) in absurd (omega arith)
+denied-word : {grants : Rule} {t : Stint State} {n : Next State} {x : Turn State} (d : Stop State) → Outcome grants t n x → x ≡ stop d → d .ending ≡ exhausted → Denied-word grants n
+denied-word d free e h = not-both e
+denied-word d (paid u l k) e h = not-both e
+denied-word d (put n k) e h = not-both e
+denied-word d (granted g) e h = not-both e
+denied-word d (divided g) e h = not-both e
+denied-word d (halts g) e h = halts-denied g (ap (λ c. c .ending) (stop-is e) ∙ h)
+denied-word d finishes e h = never (cc)
 
 denial : (grants : Rule) (t : Stint State) → carried grants t .ending ≡ exhausted → Denial grants t
 denial grants t h =
     let c = comes grants t in
     let d = carried grants t .stint in
-    let w = denied-word grants (next (d .run)) d (carried grants t) (last-turn c) h in
+    let w = denied-word (carried grants t) (outcome grants d (next (d .run))) (last-turn c) h in
     let a : w .account ≡ w .after .account = subst Own (w .word) (own (d .run)) in
     record {
       stint = d; reached = reached c; place = w .place; after = w .after;

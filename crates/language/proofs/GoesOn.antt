@@ -12,48 +12,29 @@ use Rattle.language.specs.Arithmetic.{same-number}
 use Rattle.language.specs.Questions.{Rule, Ending, too-deep, exhausted, zero-divisor, Next, moves, calls, prints, grows, divides, ends, Stint, Stop, Turn, on, stop, halt, asked, charged, filled, moved, turn, Reaches, already, onward, Comes-to, here, later, begun}
 use Rattle.language.specs.Plain.{State, next}
 use Rattle.language.specs.RunLaws.{Goes-on, joined}
-use Rattle.language.proofs.Turns.{on-is, stop-is, not-both, reached, reaches-comes}
+use Rattle.language.proofs.Turns.{on-is, stop-is, not-both, reached, reaches-comes, Outcome, free, paid, put, granted, divided, halts, finishes, outcome}
 
 module _ {S : Type 0} (a b : ℕ) where
   -- with a more units and b more entries
   abbrev more : Stint S → Stint S
   more t = record { run = t .run; units = t .units + a; entries = t .entries + b; used = t .used; printed = t .printed }
 
-  moved-more : (s : S) (t u : Stint S) → moved s t ≡ on u → moved s (more t) ≡ on (more u)
-  moved-more s t u e = ap (λ v. on (more v)) (on-is e)
+  same : (t v u : Stint S) → on v ≡ on u → on (more v) ≡ on (more u)
+  same t v u e = ap (λ w. on (more w)) (on-is e)
 
-  charged-more : (n p : ℕ) (s : S) (t u : Stint S) → charged n p s t ≡ on u → charged (n + a) p s (more t) ≡ on (more u)
-  charged-more zero p s t u e = not-both (sym e)
-  charged-more (suc n) p s t u e = rw suc-add (ap (λ v. on (more v)) (on-is e))
-
-  filled-more : (n p : ℕ) (z : ℤ) (s : S) (t u : Stint S) → filled n p z s t ≡ on u → filled (n + b) p z s (more t) ≡ on (more u)
-  filled-more zero p z s t u e = not-both (sym e)
-  filled-more (suc n) p z s t u e = rw suc-add (ap (λ v. on (more v)) (on-is e))
-
-  asked-more : (grants : Rule) (n : Next S) (t u : Stint S) → asked grants n t ≡ on u → asked grants n (more t) ≡ on (more u)
-  asked-more grants (moves s) t u e = moved-more s t u e
-  asked-more grants (calls p n s) t u e = by (ltb n 64) e
-    where
-    by : (c : Bool) → elim c [ true ↦ charged (t .units) p s t | false ↦ halt too-deep p t ] ≡ on u →
-        elim c [ true ↦ charged (t .units + a) p s (more t) | false ↦ halt too-deep p (more t) ] ≡ on (more u)
-    by true h = charged-more (t .units) p s t u h
-    by false h = not-both (sym h)
-  asked-more grants (prints p z s) t u e = filled-more (t .entries) p z s t u e
-  asked-more grants (grows p α s) t u e = by (grants α) e
-    where
-    by : (c : Bool) → elim c [ true ↦ moved s t | false ↦ halt exhausted p t ] ≡ on u → elim c [ true ↦ moved s (more t) | false ↦ halt exhausted p (more t) ] ≡ on (more u)
-    by true h = moved-more s t u h
-    by false h = not-both (sym h)
-  asked-more grants (divides p z s) t u e = by (same-number z (pos 0)) e
-    where
-    by : (c : Bool) → elim c [ true ↦ halt zero-divisor p t | false ↦ moved s t ] ≡ on u → elim c [ true ↦ halt zero-divisor p (more t) | false ↦ moved s (more t) ] ≡ on (more u)
-    by true h = not-both (sym h)
-    by false h = moved-more s t u h
-  asked-more grants (ends z) t u e = not-both (sym e)
+  -- a word goes on as before
+  goes : (grants : Rule) (t u : Stint S) {n : Next S} {x : Turn S} → Outcome grants t n x → x ≡ on u → asked grants n (more t) ≡ on (more u)
+  goes grants t u free e = same t _ u e
+  goes grants t u (paid m h k) e = rw (h, k, asked, suc-add) (same t _ u e)
+  goes grants t u (put m k) e = rw (k, suc-add) (same t _ u e)
+  goes grants t u (granted h) e = rw (h, asked) (same t _ u e)
+  goes grants t u (divided h) e = rw (h, asked) (same t _ u e)
+  goes grants t u (halts h) e = not-both (sym e)
+  goes grants t u finishes e = not-both (sym e)
 
   reaches-more : {next-of : S → Next S} {grants : Rule} {t u : Stint S} → Reaches next-of grants t u → Reaches next-of grants (more t) (more u)
   reaches-more already = already
-  reaches-more {next-of = next-of} {grants = grants} (onward {t = t} {u = u} e r) = onward (asked-more grants (next-of (t .run)) t u e) (reaches-more r)
+  reaches-more {next-of = next-of} {grants = grants} (onward {t = t} {u = u} e r) = onward (goes grants t u (outcome grants t (next-of (t .run))) e) (reaches-more r)
 
 module _ {S : Type 0} (k : ℕ) (zs : List ℤ) where
   -- with k units used and zs printed before
