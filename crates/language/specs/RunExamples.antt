@@ -6,6 +6,7 @@ use Prim.Native.Nat.{ℕ, _+_}
 use lib.Chars.{codes}
 use lib.Dec.{leb}
 use lib.IntN.{ℤ, pos, negsuc}
+use lib.ListN.{length}
 use Rattle.std.specs.declared.option.Option.{Option}
 use Rattle.std.specs.declared.option.Option.the-variants.{Some, None}
 use Rattle.language.specs.Syntax.{Script, add, div, rem}
@@ -16,7 +17,7 @@ use Rattle.language.specs.Questions.{Rule, ending-number}
 use Rattle.language.specs.Plain.{Placed}
 use Rattle.language.specs.PlainSession.{new, Call, load, start, resume, stop, Answer, done, told, refused, feed, refusal-number}
 use Rattle.language.specs.Reads.{Reads, reference}
-use Rattle.language.specs.RunScripts.{sum-script, deep-script, handing-script, cut-script}
+use Rattle.language.specs.RunScripts.{sum-script, deep-script, handing-script, cut-script, twice-script}
 
 -- the rule of one stretch of memory, and of a quota over another rule
 abbrev pub total : List ℕ → ℕ
@@ -32,6 +33,10 @@ all-within q (l ∷ ls) = elim (leb l q) [ true ↦ all-within q ls | false ↦ 
 
 abbrev pub quota : ℕ → Rule → Rule
 quota q below ls = all-within q ls && below ls
+
+-- the rule that grants so many regions
+abbrev pub regions : ℕ → Rule
+regions n ls = leb (length ls) n
 
 -- an answer by its numbers: the refusal; or the ending, the result, the place, the units, the prints, and the list
 pub data Shown : Type 0 where
@@ -72,6 +77,9 @@ pub record Worked : Type 0 where
   pub deep-too-deep : run (stretch 0) deep-script (pos 1) 63 one ≡ ok ∷ (ok ∷ (ends 4 (pos 0) 32 63 0 (pos 0 ∷ []) ∷ []))
   -- a callee's region name means the position handed over, and not that of a like name
   pub handed-over : run (quota 2 (stretch 4)) handing-script (pos 4) 1 one ≡ ok ∷ (ok ∷ (ends 0 (pos 0) 0 1 0 (pos 0 ∷ []) ∷ []))
+  -- a region that was left is out of the account
+  pub one-by-one : run (regions 1) twice-script (pos 4) 0 one ≡ ok ∷ (ok ∷ (ends 0 (pos 4) 0 0 0 (pos 0 ∷ []) ∷ []))
+  pub none-granted : run (regions 0) twice-script (pos 4) 0 one ≡ ok ∷ (ok ∷ (ends 3 (pos 0) 32 0 0 (pos 0 ∷ []) ∷ []))
   -- -7 by 2 gives -3 and -1, by 0 nothing, and 2147483647 plus 1 is -2147483648
   pub cut-ends : run (stretch 0) cut-script (pos 2) 0 two ≡ ok ∷ (ok ∷ (ends 0 (negsuc 2147483647) 0 0 2 (negsuc 2 ∷ (negsuc 0 ∷ [])) ∷ []))
   pub cut-by-zero : run (stretch 0) cut-script (pos 0) 0 two ≡ ok ∷ (ok ∷ (ends 5 (pos 0) 32 0 0 two ∷ []))

@@ -66,3 +66,14 @@ cut-script =
             (bind (at 55 "r") (oper 59 rem (num 63 (negsuc 6)) (var (at 66 "n")))
               (print 69 (var (at 75 "r"))
                 (bind (at 82 "m") (oper 86 add (num 90 (pos 2147483647)) (num 101 (pos 1))) (last (var (at 104 "m"))))))) } ∷ []
+
+-- fun main(n: int): int { let x = region a { n }; let y = region b { let e = nil@b(int); let c = cons@b(x, e); x }; y }
+abbrev pub twice-script : Script
+twice-script =
+    record { name = at 4 "main"; regions = []; params = record { name = at 9 "n"; type = int } ∷ []; result = int;
+      body =
+        bind (at 28 "x") (region 32 (at 39 "a") (last (var (at 43 "n"))))
+          (bind (at 52 "y") (region 56 (at 63 "b")
+            (bind (at 71 "e") (nil 75 (at 79 "b") int)
+              (bind (at 91 "c") (cons 95 (at 100 "b") (var (at 102 "x")) (var (at 105 "e"))) (last (var (at 109 "x"))))))
+            (last (var (at 114 "y")))) } ∷ []
