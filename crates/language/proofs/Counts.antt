@@ -58,8 +58,8 @@ module _ {S : Type 0} {grants : Rule} where
 
 pub proof : Resume-counts
 proof = record {
-    units = λ grants s n l e c. let k = reaches-kept (reached c) in omega arith;
-    prints = λ grants s n l e c. let k = reaches-kept (reached c) in omega arith;
-    at-spent = λ grants s n l e c h. comes-lacks c .unit h;
-    at-full = λ grants s n l e c h. comes-lacks c .entry h;
+  units = λ grants s n l e c. let k = reaches-kept (reached c) in omega arith;
+  prints = λ grants s n l e c. let k = reaches-kept (reached c) in omega arith;
+  at-spent = λ grants s n l e c h. comes-lacks c .unit h;
+  at-full = λ grants s n l e c h. comes-lacks c .entry h;
 }

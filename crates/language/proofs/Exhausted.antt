@@ -88,9 +88,13 @@ denial grants t h =
     let w = denied-word (carried grants t) (outcome grants d (next (d .run))) (last-turn c) h in
     let a : w .account ≡ w .after .account = subst Own (w .word) (own (d .run)) in
     record {
-      stint = d; reached = reached c; place = w .place; after = w .after;
+      stint = d;
+      reached = reached c;
+      place = w .place;
+      after = w .after;
       word = w .word ∙ ap (λ α. grows (w .place) α (w .after)) a;
-      denied = ap grants (sym a) ∙ w .denied }
+      denied = ap grants (sym a) ∙ w .denied;
+    }
 
 denies : (grants : Rule) (t : Stint State) → Denial grants t → carried grants t .ending ≡ exhausted
 denies grants t d =

@@ -40,16 +40,16 @@ body-within : (F : Script) (f : Ident) → block-size (function-of F f .body) �
 body-within [] f = omega arith
 body-within (g ∷ F) f = here (same-bytes (g .name .name) (f .name)) refl (body-within F f)
   where
-  here : (t : Bool) → same-bytes (g .name .name) (f .name) ≡ t → block-size (function-of F f .body) ≤ script-size F → block-size (function-of (g ∷ F) f .body) ≤ script-size (g ∷ F)
-  here true e h = rw (e, function-of) (omega arith)
-  here false e h = rw (e, function-of) (omega arith)
+    here : (t : Bool) → same-bytes (g .name .name) (f .name) ≡ t → block-size (function-of F f .body) ≤ script-size F → block-size (function-of (g ∷ F) f .body) ≤ script-size (g ∷ F)
+    here true e h = rw (e, function-of) (omega arith)
+    here false e h = rw (e, function-of) (omega arith)
 
 chosen-size : (z : ℤ) (b c : Block) → block-size (chosen z b c) ≤ block-size b + block-size c
 chosen-size z b c = by (same-number z (pos 0)) refl
   where
-  by : (t : Bool) → same-number z (pos 0) ≡ t → block-size (chosen z b c) ≤ block-size b + block-size c
-  by true e = rw (e, chosen) (omega arith)
-  by false e = rw (e, chosen) (omega arith)
+    by : (t : Bool) → same-number z (pos 0) ≡ t → block-size (chosen z b c) ≤ block-size b + block-size c
+    by true e = rw (e, chosen) (omega arith)
+    by false e = rw (e, chosen) (omega arith)
 
 falls-after : (F : Script) (b : Block) (v : Value) (E : List Held) (ρ : List Placed) (K : List Frame) (α : List ℕ) → 0 < block-size b → Fall (state F b E ρ K α) (after-block F v K α)
 falls-after F b v E ρ [] α h = tt

@@ -60,21 +60,21 @@ module _ {S : Type 0} (k : ℕ) (zs : List ℤ) where
   asked-since grants (moves s) t = refl
   asked-since grants (calls p n s) t = by (ltb n 64)
     where
-    by : (c : Bool) → _≡_ {A = Turn S} (elim c [ true ↦ charged (t .units) p s (since t) | false ↦ halt too-deep p (since t) ])
-        (since-turn (elim c [ true ↦ charged (t .units) p s t | false ↦ halt too-deep p t ]))
-    by true = charged-since (t .units) p s t
-    by false = refl
+      by : (c : Bool) → _≡_ {A = Turn S} (elim c [ true ↦ charged (t .units) p s (since t) | false ↦ halt too-deep p (since t) ])
+          (since-turn (elim c [ true ↦ charged (t .units) p s t | false ↦ halt too-deep p t ]))
+      by true = charged-since (t .units) p s t
+      by false = refl
   asked-since grants (prints p z s) t = filled-since (t .entries) p z s t
   asked-since grants (grows p α s) t = by (grants α)
     where
-    by : (c : Bool) → _≡_ {A = Turn S} (elim c [ true ↦ moved s (since t) | false ↦ halt exhausted p (since t) ]) (since-turn (elim c [ true ↦ moved s t | false ↦ halt exhausted p t ]))
-    by true = refl
-    by false = refl
+      by : (c : Bool) → _≡_ {A = Turn S} (elim c [ true ↦ moved s (since t) | false ↦ halt exhausted p (since t) ]) (since-turn (elim c [ true ↦ moved s t | false ↦ halt exhausted p t ]))
+      by true = refl
+      by false = refl
   asked-since grants (divides p z s) t = by (same-number z (pos 0))
     where
-    by : (c : Bool) → _≡_ {A = Turn S} (elim c [ true ↦ halt zero-divisor p (since t) | false ↦ moved s (since t) ]) (since-turn (elim c [ true ↦ halt zero-divisor p t | false ↦ moved s t ]))
-    by true = refl
-    by false = refl
+      by : (c : Bool) → _≡_ {A = Turn S} (elim c [ true ↦ halt zero-divisor p (since t) | false ↦ moved s (since t) ]) (since-turn (elim c [ true ↦ halt zero-divisor p t | false ↦ moved s t ]))
+      by true = refl
+      by false = refl
   asked-since grants (ends z) t = refl
 
   comes-since : {next-of : S → Next S} {grants : Rule} {t : Stint S} {d : Stop S} → Comes-to next-of grants t d → Comes-to next-of grants (since t) (since-stop d)
@@ -88,4 +88,4 @@ begun-since d a b = rw (add-zero, append-nil)
 pub proof : Goes-on
 proof grants s n l a b d e c c′ =
     reaches-comes (reaches-more a b (reached c))
-      (subst (λ t. Comes-to next grants t (joined d e)) (begun-since (d .stint) a b) (comes-since (d .stint .used) (d .stint .printed) c′))
+    (subst (λ t. Comes-to next grants t (joined d e)) (begun-since (d .stint) a b) (comes-since (d .stint .used) (d .stint .printed) c′))

@@ -43,11 +43,11 @@ suffices : (grants : Rule) (k : ℕ) (t : Stint State) → left t < k → Within
 suffices grants zero t h = absurd (omega arith)
 suffices grants (suc k) t h = by (λ u l. suffices grants k u l) (turn next grants t) refl
   where
-  by : ((u : Stint State) → left u < k → Within grants k u) → (x : Turn State) → turn next grants t ≡ x → Within grants (suc k) t
-  by again (stop d) e = record { end = d; computed = rw (e, within); reached = here e }
-  by again (on u) e =
-      let less : left u < left t = leaves-fewer t u (outcome grants t (next (t .run))) (falls (t .run)) e in
-      one-more t u e (again u (omega arith))
+    by : ((u : Stint State) → left u < k → Within grants k u) → (x : Turn State) → turn next grants t ≡ x → Within grants (suc k) t
+    by again (stop d) e = record { end = d; computed = rw (e, within); reached = here e }
+    by again (on u) e =
+        let less : left u < left t = leaves-fewer t u (outcome grants t (next (t .run))) (falls (t .run)) e in
+        one-more t u e (again u (omega arith))
 
 -- a stint comes to what is computed
 pub comes : (grants : Rule) (t : Stint State) → Comes-to next grants t (carried grants t)

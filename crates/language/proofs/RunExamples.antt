@@ -6,23 +6,23 @@ use Rattle.language.specs.RunExamples.{Worked}
 
 pub worked : Worked
 worked = record {
-    sum-ends = refl;
-    sum-spent = refl;
-    sum-goes-on = refl;
-    sum-exhausted = refl;
-    sum-over-quota = refl;
-    deep-spent = refl;
-    deep-too-deep = refl;
-    handed-over = refl;
-    one-by-one = refl;
-    none-granted = refl;
-    cut-ends = refl;
-    cut-by-zero = refl;
-    quotient-corner = refl;
-    remainder-corner = refl;
-    refusals = refl;
-    too-many = refl;
-    list-read =
+  sum-ends = refl;
+  sum-spent = refl;
+  sum-goes-on = refl;
+  sum-exhausted = refl;
+  sum-over-quota = refl;
+  deep-spent = refl;
+  deep-too-deep = refl;
+  handed-over = refl;
+  one-by-one = refl;
+  none-granted = refl;
+  cut-ends = refl;
+  cut-by-zero = refl;
+  quotient-corner = refl;
+  remainder-corner = refl;
+  refusals = refl;
+  too-many = refl;
+  list-read =
       reads-link 3 (reference 1 0) (omega arith) refl refl refl (reads-number refl)
-        (reads-link 4 0 (omega arith) refl refl refl (reads-number refl) (reads-empty refl));
+      (reads-link 4 0 (omega arith) refl refl refl (reads-number refl) (reads-empty refl));
 }

@@ -32,10 +32,10 @@ struck-function : (F : Script) (f : Ident) → bare-function-of (struck-script F
 struck-function [] f = refl
 struck-function (g ∷ F) f = by (same-bytes (g .name .name) (f .name)) refl (struck-function F f)
   where
-  by : (t : Bool) → same-bytes (g .name .name) (f .name) ≡ t → bare-function-of (struck-script F) f ≡ struck-fun (function-of F f) →
-      bare-function-of (struck-script (g ∷ F)) f ≡ struck-fun (function-of (g ∷ F) f)
-  by true e h = rw (e, function-of, bare-function-of)
-  by false e h = rw (e, function-of, bare-function-of) h
+    by : (t : Bool) → same-bytes (g .name .name) (f .name) ≡ t → bare-function-of (struck-script F) f ≡ struck-fun (function-of F f) →
+        bare-function-of (struck-script (g ∷ F)) f ≡ struck-fun (function-of (g ∷ F) f)
+    by true e h = rw (e, function-of, bare-function-of)
+    by false e h = rw (e, function-of, bare-function-of) h
 
 struck-names : (qs : List Param) → bare-param-names (map struck-param qs) ≡ param-names qs
 struck-names [] = refl
@@ -50,9 +50,9 @@ struck-unfinished (returning x b E ρ ∷ K) = ap suc (struck-unfinished K)
 struck-chosen : (z : ℤ) (b c : Block) → chosen z (struck-block b) (struck-block c) ≡ struck-block (chosen z b c)
 struck-chosen z b c = by (same-number z (pos 0)) refl
   where
-  by : (t : Bool) → same-number z (pos 0) ≡ t → chosen z (struck-block b) (struck-block c) ≡ struck-block (chosen z b c)
-  by true e = rw (e, chosen)
-  by false e = rw (e, chosen)
+    by : (t : Bool) → same-number z (pos 0) ≡ t → chosen z (struck-block b) (struck-block c) ≡ struck-block (chosen z b c)
+    by true e = rw (e, chosen)
+    by false e = rw (e, chosen)
 
 struck-split : (F : Script) (v : Value) (b c : Block) (h t : Ident) (E : List Held) (ρ : List Placed) (K : List Frame) (α : List ℕ) →
     bare-split (struck-script F) v (struck-block b) h t (struck-block c) E (map struck-frame K) ≡ struck-state (split-value F v b h t c E ρ K α)
@@ -119,23 +119,23 @@ module _ (grants any : Rule) where
   struck-asked (moves s) t h = refl
   struck-asked (calls p n s) t h = by (ltb n 64)
     where
-    by : (b : Bool) → _≡_ {A = Turn Bare-state} (elim b [ true ↦ charged (t .units) p (struck-state s) (struck-stint t) | false ↦ halt too-deep p (struck-stint t) ])
-        (struck-turn (elim b [ true ↦ charged (t .units) p s t | false ↦ halt too-deep p t ]))
-    by true = struck-charged (t .units) p s t
-    by false = refl
+      by : (b : Bool) → _≡_ {A = Turn Bare-state} (elim b [ true ↦ charged (t .units) p (struck-state s) (struck-stint t) | false ↦ halt too-deep p (struck-stint t) ])
+          (struck-turn (elim b [ true ↦ charged (t .units) p s t | false ↦ halt too-deep p t ]))
+      by true = struck-charged (t .units) p s t
+      by false = refl
   struck-asked (prints p z s) t h = struck-filled (t .entries) p z s t
   struck-asked (grows p α s) t h = by (grants α) h
     where
-    by : (b : Bool) → (Denied (elim b [ true ↦ moved s t | false ↦ halt exhausted p t ]) → ⊥) →
-        moved (struck-state s) (struck-stint t) ≡ struck-turn (elim b [ true ↦ moved s t | false ↦ halt exhausted p t ])
-    by true k = refl
-    by false k = absurd (k refl)
+      by : (b : Bool) → (Denied (elim b [ true ↦ moved s t | false ↦ halt exhausted p t ]) → ⊥) →
+          moved (struck-state s) (struck-stint t) ≡ struck-turn (elim b [ true ↦ moved s t | false ↦ halt exhausted p t ])
+      by true k = refl
+      by false k = absurd (k refl)
   struck-asked (divides p z s) t h = by (same-number z (pos 0))
     where
-    by : (b : Bool) → _≡_ {A = Turn Bare-state} (elim b [ true ↦ halt zero-divisor p (struck-stint t) | false ↦ moved (struck-state s) (struck-stint t) ])
-        (struck-turn (elim b [ true ↦ halt zero-divisor p t | false ↦ moved s t ]))
-    by true = refl
-    by false = refl
+      by : (b : Bool) → _≡_ {A = Turn Bare-state} (elim b [ true ↦ halt zero-divisor p (struck-stint t) | false ↦ moved (struck-state s) (struck-stint t) ])
+          (struck-turn (elim b [ true ↦ halt zero-divisor p t | false ↦ moved s t ]))
+      by true = refl
+      by false = refl
   struck-asked (ends z) t h = refl
 
   -- one word further in both runs
@@ -158,8 +158,8 @@ module _ (grants any : Rule) where
 
 pub proof : Struck-alike
 proof = record {
-    starts = struck-started;
-    reaches = λ grants any t u r. reaches-alike grants any r;
-    stops = λ grants any t e c h. comes-alike grants any c h;
-    denied = λ grants any t e c h. reaches-alike grants any (reached c);
+  starts = struck-started;
+  reaches = λ grants any t u r. reaches-alike grants any r;
+  stops = λ grants any t e c h. comes-alike grants any c h;
+  denied = λ grants any t e c h. reaches-alike grants any (reached c);
 }

@@ -40,9 +40,13 @@ pub record State : Type 0 where
 abbrev pub state : Script → Block → List Held → List Placed → List Frame → List ℕ → State
 state F b E ρ K α = record { script = F; block = b; variables = E; regions = ρ; frames = K; account = α }
 
--- the position that a region name means
+-- the position that a region name means, or none
+abbrev pub meant : List Placed → Name → Option ℕ
+meant ρ r = elim (find (λ q. q .name) r ρ) [ Some q ↦ Some (q .position) | None ↦ None ]
+
+-- the same of a checked script, where there is one
 abbrev pub position-of : List Placed → Ident → ℕ
-position-of ρ r = elim (find (λ q. q .name) (r .name) ρ) [ Some q ↦ q .position | None ↦ 0 ]
+position-of ρ r = elim (meant ρ (r .name)) [ Some p ↦ p | None ↦ 0 ]
 
 -- a callee's region names mean the positions handed over
 abbrev pub placed : List Ident → List ℕ → List Placed
@@ -110,8 +114,8 @@ at-right F x (cons p r a c) b E ρ K α =
     grows p (lengthened α (position-of ρ r)) (state F b (holding E x (link (value-of E a) (value-of E c))) ρ K (lengthened α (position-of ρ r)))
 at-right F x (call p f rs xs) b E ρ K α =
     calls p (unfinished K)
-      (state F (function-of F f .body) (handed (param-names (function-of F f .params)) (values-of E xs)) (placed (function-of F f .regions) (map (position-of ρ) rs))
-        (returning x b E ρ ∷ K) α)
+    (state F (function-of F f .body) (handed (param-names (function-of F f .params)) (values-of E xs)) (placed (function-of F f .regions) (map (position-of ρ) rs))
+    (returning x b E ρ ∷ K) α)
 at-right F x (test p a c d) b E ρ K α = moves (state F (chosen (number-of (value-of E a)) c d) E ρ (inner x b E ρ ∷ K) α)
 at-right F x (region p r c) b E ρ K α =
     grows p (opened α) (state F c E (ρ ++ (record { name = r .name; position = length α } ∷ [])) (closing x b E ρ ∷ K) (opened α))

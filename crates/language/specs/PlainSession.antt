@@ -67,7 +67,13 @@ written printed entries = printed ++ drop (length printed) entries
 -- what a stop tells
 abbrev pub telling : Stop State → List ℤ → Told
 telling e entries = record {
-    ending = e .ending; result = e .result; place = e .place; units = e .stint .used; prints = length (e .stint .printed); entries = written (e .stint .printed) entries }
+  ending = e .ending;
+  result = e .result;
+  place = e .place;
+  units = e .stint .used;
+  prints = length (e .stint .printed);
+  entries = written (e .stint .printed) entries;
+}
 
 -- the run after a stop: still under way, or over
 abbrev pub run-after : Stop State → ℕ → Option Run
@@ -84,8 +90,9 @@ load-call p s = elim (s .run) [ Some c ↦ refusing under-way s | None ↦ (done
 -- start: is no run under way, and is a program loaded?
 abbrev pub start-call : ℤ → Session → Answer × Session
 start-call n s = elim (s .run) [
-    Some c ↦ refusing under-way s
-  | None ↦ elim (s .loaded) [ None ↦ refusing not-loaded s | Some F ↦ (done, record { loaded = s .loaded; run = Some (record { at = started F n; used = 0 }) }) ] ]
+  | Some c ↦ refusing under-way s
+  | None ↦ elim (s .loaded) [ None ↦ refusing not-loaded s | Some F ↦ (done, record { loaded = s .loaded; run = Some (record { at = started F n; used = 0 }) }) ]
+]
 
 -- what a resume that is not refused answers, and the session after it, where the run has come to a stop
 abbrev pub stopped : Stop State → Run → List ℤ → Session → Answer × Session
@@ -98,8 +105,9 @@ resumed c units entries = begun (c .at) units (length entries)
 -- resume: is a run under way, and are the units used since the start, plus these, at most 4,294,967,295?
 abbrev pub resume-call : Rule → ℕ → List ℤ → Session → Answer × Session
 resume-call grants units entries s = elim (s .run) [
-    None ↦ refusing not-under-way s
-  | Some c ↦ elim (leb (c .used + units) 4294967295) [ true ↦ stopped (carried grants (resumed c units entries)) c entries s | false ↦ refusing too-many-units s ] ]
+  | None ↦ refusing not-under-way s
+  | Some c ↦ elim (leb (c .used + units) 4294967295) [ true ↦ stopped (carried grants (resumed c units entries)) c entries s | false ↦ refusing too-many-units s ]
+]
 
 -- stop: is a run under way? then it is dropped
 abbrev pub stop-call : Session → Answer × Session

@@ -5,23 +5,16 @@ use Prim.Native.Nat.{ℕ, zero, suc, _+_, _-_, _*_, _/_, _%_, _<_}
 use lib.IntN.{ℤ}
 use mir.Syntax.{w32}
 use mir.Val.{toZ}
+use Rattle.std.specs.shelf.Maps.{nth}
 use Rattle.std.specs.declared.option.Option.{Option}
 use Rattle.std.specs.declared.option.Option.the-variants.{Some, None}
 use Rattle.language.specs.Types.{Name, RegionType, int, list}
-use Rattle.language.specs.Scope.{find}
 use Rattle.language.specs.Values.{Value, number, empty, link}
-use Rattle.language.specs.Plain.{Placed}
+use Rattle.language.specs.Plain.{Placed, meant}
 
--- the word at a place of the region at a position
-abbrev pub word-in : List ℕ → ℕ → Option ℕ
-word-in [] i = None
-word-in (w ∷ ws) zero = Some w
-word-in (w ∷ ws) (suc i) = word-in ws i
-
+-- the word at a place of the region at a position, or none
 abbrev pub word-at : List (List ℕ) → ℕ → ℕ → Option ℕ
-word-at [] p i = None
-word-at (ws ∷ rs) zero i = word-in ws i
-word-at (ws ∷ rs) (suc p) i = word-at rs p i
+word-at rs p i = elim (nth rs p) [ Some ws ↦ nth ws i | None ↦ None ]
 
 -- the reference to the two words from a place on, in the region at a position; 0 refers to no words and is the list without elements
 abbrev pub reference : ℕ → ℕ → ℕ
@@ -33,10 +26,6 @@ region-of w = (w - 1) / 65536
 
 abbrev pub place-of : ℕ → ℕ
 place-of w = (w - 1) % 65536
-
--- the position that a region name means, or none
-abbrev pub meant : List Placed → Name → Option ℕ
-meant ρ r = elim (find (λ q. q .name) r ρ) [ Some q ↦ Some (q .position) | None ↦ None ]
 
 -- the word w is the value v at a type whose region names mean positions: a number as itself, a list as a reference into the region that its type names,
 -- to the word of its head and, behind it, the word of its tail

@@ -87,7 +87,7 @@ pub record Worked : Type 0 where
   pub remainder-corner : calculated rem (negsuc 2147483647) (negsuc 0) ≡ pos 0
   -- the calls' own questions, and a list that is full
   pub refusals : answers (stretch 4)
-        (start (pos 4) ∷ (resume 1 one ∷ (stop ∷ (load (Some sum-script) ∷ (start (pos 4) ∷ (resume 3 [] ∷ (load None ∷ (start (pos 1) ∷ (resume 3 one ∷ (stop ∷ [])))))))))) ≡
+      (start (pos 4) ∷ (resume 1 one ∷ (stop ∷ (load (Some sum-script) ∷ (start (pos 4) ∷ (resume 3 [] ∷ (load None ∷ (start (pos 1) ∷ (resume 3 one ∷ (stop ∷ [])))))))))) ≡
       no 21 ∷ (no 22 ∷ (no 22 ∷ (ok ∷ (ok ∷ (ends 2 (pos 0) 223 0 0 [] ∷ (no 20 ∷ (no 20 ∷ (ends 0 (pos 7) 0 3 1 (pos 4 ∷ []) ∷ (no 22 ∷ [])))))))))
   pub too-many : answers (stretch 0) (load (Some deep-script) ∷ (start (pos 1) ∷ (resume 1 [] ∷ (resume 4294967295 [] ∷ (resume 4294967294 [] ∷ (stop ∷ [])))))) ≡
       ok ∷ (ok ∷ (ends 1 (pos 0) 32 1 0 [] ∷ (no 24 ∷ (ends 4 (pos 0) 32 62 0 [] ∷ (no 22 ∷ [])))))

@@ -46,9 +46,17 @@ pub record Resume-counts : Type 0 where
 -- two resumes as one: the second's ending, with the counts and the numbers printed added up
 abbrev pub joined : Stop State → Stop State → Stop State
 joined d e = record {
-    ending = e .ending; result = e .result; place = e .place;
-    stint = record {
-      run = e .stint .run; units = e .stint .units; entries = e .stint .entries; used = d .stint .used + e .stint .used; printed = d .stint .printed ++ e .stint .printed } }
+  ending = e .ending;
+  result = e .result;
+  place = e .place;
+  stint = record {
+    run = e .stint .run;
+    units = e .stint .units;
+    entries = e .stint .entries;
+    used = d .stint .used + e .stint .used;
+    printed = d .stint .printed ++ e .stint .printed;
+  };
+}
 
 -- A run that stopped goes on at the same word: resumed with what was left and some more, it does what it would have done with that from the first.
 abbrev pub Goes-on : Type 0

@@ -3,7 +3,7 @@ use mathlib.Core.Bool.{Bool, true, false}
 use mathlib.Core.List.{List, [], _∷_}
 use Prim.Native.Nat.{ℕ, suc}
 use Rattle.lexing.specs.Tokens.{same-bytes}
-use Rattle.language.specs.Syntax.{Ident, Ty}
+use Rattle.language.specs.Syntax.{Ty}
 
 -- a name is its bytes
 abbrev pub Name : Type 0
@@ -35,6 +35,10 @@ mentions r (list s T) = elim (same-bytes s r) [ true ↦ true | false ↦ mentio
 abbrev pub depth : RegionType → ℕ
 depth int = 0
 depth (list r T) = suc (depth T)
+
+-- how deep the type of a list may be nested
+abbrev pub deepest : ℕ
+deepest = 5
 
 -- the name that stands for r, where each of `olds` gives way to the one of `news` at its place
 abbrev pub renamed : List Name → List Name → Name → Name
