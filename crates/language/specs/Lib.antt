@@ -1,1 +1,14 @@
 pub mod Syntax
+pub mod Types
+pub mod Scope
+pub mod Arithmetic
+pub mod Values
+pub mod Questions
+pub mod Plain
+pub mod PlainSession
+pub mod Struck
+pub mod StruckRun
+pub mod Reads
+pub mod RunLaws
+pub mod RunScripts
+pub mod RunExamples

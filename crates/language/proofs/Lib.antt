@@ -1,0 +1,11 @@
+pub mod RunExamples
+pub mod ReadsOnce
+pub mod Falls
+pub mod Turns
+pub mod OneStop
+pub mod Struck
+pub mod Counts
+pub mod GoesOn
+pub mod OneAnswer
+pub mod Exhausted
+pub mod References

@@ -1,0 +1,28 @@
+-- A word reads as at most one value: the reference settles position and place, and the words there the rest.
+use mathlib.Core.Path.{_≡_, refl, sym, ap, _∙_}
+use mathlib.Core.List.{List}
+use Prim.Native.Nat.{ℕ, _<_}
+use native.Mathlib.Omega.{arith}
+use Rattle.std.specs.declared.option.Option.{Option}
+use Rattle.std.specs.declared.option.Option.the-variants.{Some, None}
+use Rattle.language.specs.Types.{RegionType, int, list}
+use Rattle.language.specs.Values.{Value, number, empty, link}
+use Rattle.language.specs.Plain.{Placed}
+use Rattle.language.specs.Reads.{Reads, reads-number, reads-empty, reads-link, word-at}
+
+module _ {rs : List (List ℕ)} {ρ : List Placed} where
+  -- at words that are equal, so that heads and tails fetched twice can be compared
+  once : {T : RegionType} {w w′ : ℕ} {v v′ : Value} → w ≡ w′ → Reads rs ρ T w v → Reads rs ρ T w′ v′ → v ≡ v′
+  once e (reads-number p) (reads-number q) = cc
+  once e (reads-empty p) (reads-empty q) = refl
+  once e (reads-empty p) (reads-link h t pos m x y a b) = absurd (omega arith)
+  once e (reads-link h t pos m x y a b) (reads-empty q) = absurd (omega arith)
+  once e (reads-link h t pos m x y a b) (reads-link h′ t′ pos′ m′ x′ y′ a′ b′) =
+      let heads : h ≡ h′ = cc in
+      let tails : t ≡ t′ = cc in
+      let p = once heads a a′ in
+      let q = once tails b b′ in
+      cc
+
+  pub reads-once : (T : RegionType) (w : ℕ) (v v′ : Value) → Reads rs ρ T w v → Reads rs ρ T w v′ → v ≡ v′
+  reads-once T w v v′ a b = once refl a b

@@ -1,0 +1,5 @@
+use Rattle.language.proofs.running.exhausted_exactly.Needs as need
+use Rattle.language.proofs.Exhausted.{proof}
+
+pub returns : need.returns
+returns c = proof

@@ -1,0 +1,5 @@
+use Rattle.language.proofs.running.goes_on.Needs as need
+use Rattle.language.proofs.GoesOn.{proof}
+
+pub returns : need.returns
+returns c = proof

@@ -1,0 +1,5 @@
+use Rattle.language.proofs.running.one_answer.Needs as need
+use Rattle.language.proofs.OneAnswer.{proof}
+
+pub returns : need.returns
+returns c = proof

@@ -1,0 +1,5 @@
+use Rattle.language.proofs.running.one_stop.Needs as need
+use Rattle.language.proofs.OneStop.{proof}
+
+pub returns : need.returns
+returns c = proof

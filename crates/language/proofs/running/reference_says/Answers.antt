@@ -1,0 +1,5 @@
+use Rattle.language.proofs.running.reference_says.Needs as need
+use Rattle.language.proofs.References.{proof}
+
+pub returns : need.returns
+returns c = proof

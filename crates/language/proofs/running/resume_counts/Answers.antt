@@ -1,0 +1,5 @@
+use Rattle.language.proofs.running.resume_counts.Needs as need
+use Rattle.language.proofs.Counts.{proof}
+
+pub returns : need.returns
+returns c = proof

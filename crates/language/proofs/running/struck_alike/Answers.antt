@@ -1,0 +1,5 @@
+use Rattle.language.proofs.running.struck_alike.Needs as need
+use Rattle.language.proofs.Struck.{proof}
+
+pub returns : need.returns
+returns c = proof

@@ -1,0 +1,5 @@
+use Rattle.language.proofs.running.worked_runs.Needs as need
+use Rattle.language.proofs.RunExamples.{worked}
+
+pub returns : need.returns
+returns c = worked

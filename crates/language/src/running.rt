@@ -1,0 +1,66 @@
+// What holds of the plain run, of striking out and of reading lists, each law named by the contract of a function.
+ghost use Rattle.language.specs.RunLaws.{One-stop, One-answer, Resume-counts, Goes-on, Exhausted-exactly, Struck-alike, Reads-once, Reference-says};
+ghost use Rattle.language.specs.RunExamples.{Worked};
+
+// every resume comes to exactly one stop, and its words never run out
+pub fn one_stop() -> u8
+    ensures { λ _. ⌜ One-stop ⌝ }
+{
+    0
+}
+
+// a resume that is not refused answers by that stop
+pub fn one_answer() -> u8
+    ensures { λ _. ⌜ One-answer ⌝ }
+{
+    0
+}
+
+// units and entries are neither lost nor invented
+pub fn resume_counts() -> u8
+    ensures { λ _. ⌜ Resume-counts ⌝ }
+{
+    0
+}
+
+// a run goes on at the word where it stopped
+pub fn goes_on() -> u8
+    ensures { λ _. ⌜ Goes-on ⌝ }
+{
+    0
+}
+
+// a resume answers exhausted exactly when its run comes to a word after which the rule denies the account
+pub fn exhausted_exactly() -> u8
+    ensures { λ _. ⌜ Exhausted-exactly ⌝ }
+{
+    0
+}
+
+// striking out region words leaves values, prints, results, endings and places as they are
+pub fn struck_alike() -> u8
+    ensures { λ _. ⌜ Struck-alike ⌝ }
+{
+    0
+}
+
+// a word reads as at most one value
+pub fn reads_once() -> u8
+    ensures { λ _. ⌜ Reads-once ⌝ }
+{
+    0
+}
+
+// a reference says its position and its place
+pub fn reference_says() -> u8
+    ensures { λ _. ⌜ Reference-says ⌝ }
+{
+    0
+}
+
+// the worked examples of runs
+pub fn worked_runs() -> u8
+    ensures { λ _. ⌜ Worked ⌝ }
+{
+    0
+}
