@@ -1,0 +1,4 @@
+pub mod Names
+pub mod Answered
+pub mod Passing
+pub mod WellTyped
