@@ -9,6 +9,7 @@ use lib.Dec.{eqb, leb, ltb}
 use lib.ListN.{length}
 use Rattle.std.proofs.shelf.Ways.{tells}
 use Rattle.std.specs.Options.{isSome}
+use Rattle.std.specs.shelf.Lists.{All}
 use Rattle.std.specs.declared.option.Option.{Option}
 use Rattle.std.specs.declared.option.Option.the-variants.{Some, None}
 use Rattle.std.specs.declared.result.Result.{Result}
@@ -18,7 +19,7 @@ use Rattle.language.specs.Verdict.{Refused}
 use Rattle.language.specs.Syntax.{Ident, Ty, Atom, var, num, Right, atom, oper, nil, cons, call, test, region, split, Block, last, bind, print, Param, Fun, Script}
 use Rattle.language.specs.Types.{Name, RegionType, int, list, unplaced, same-type, mentions, depth}
 use Rattle.language.specs.Scope.{Scope, find-variable, find-region, find-function, with-variable, with-region, region-scope, header-scope, empty-scope}
-use Rattle.language.specs.Typing.{Known-region, Within, New-region, New-variable, most-params, most-variables, TypedAtom, variable-has, numeral-has, TypedAtoms, no-atoms, more-atoms, Known-regions, no-regions, more-regions, at-call, needed, TypedRight, atom-has, oper-has, nil-has, cons-has, call-has, test-has, region-has, split-has, TypedBlock, last-has, bind-has, print-has, New-regions, no-new-regions, more-new-regions, New-params, no-new-params, more-new-params, TypedHeader, TypedHeaders, no-headers, more-headers, TypedBody, TypedBodies, no-bodies, more-bodies, Main, TypedScript}
+use Rattle.language.specs.Typing.{Known-region, Within, New-region, New-variable, most-params, most-variables, TypedAtom, variable-has, numeral-has, TypedAtoms, no-atoms, more-atoms, at-call, needed, TypedRight, atom-has, oper-has, nil-has, cons-has, call-has, test-has, region-has, split-has, TypedBlock, last-has, bind-has, print-has, New-regions, no-new-regions, more-new-regions, New-params, no-new-params, more-new-params, TypedHeader, TypedHeaders, no-headers, more-headers, TypedBody, Main, TypedScript}
 use Rattle.language.specs.Checking.{_>>=_, _>>_, ask, found, known-region, known-regions, known-type, new-region, new-variable, atom-place, last-place, type-atom, need, need-all, element, type-right, type-block, check-regions, check-params, check-header, check-headers, one-int, main-like, check-main, check-body, check-bodies, checking}
 use Rattle.language.proofs.Names.{true-false, same-bytes-is, same-type-is}
 use Rattle.language.proofs.Answered.{bound, after, ok-is, asked, found-is, none-is, some-is, not-is, and-is}
@@ -45,9 +46,9 @@ new-variable-is e =
 known-is : {n : Name} (Γ : Scope) (r : Ident) → known-region Γ r ≡ Ok n → Known-region Γ (r .name)
 known-is Γ r e = let f = found-is (find-region Γ (r .name)) (r .place) e in rw f
 
-knowns-are : {Γ : Scope} {u : Unit {0}} (rs : List Ident) → known-regions Γ rs ≡ Ok u → Known-regions Γ rs
-knowns-are [] e = no-regions
-knowns-are {Γ} (r ∷ rs) e = let (n, p, q) = after _ _ e in more-regions (known-is Γ r p) (knowns-are rs q)
+knowns-are : {u : Unit {0}} (Γ : Scope) (rs : List Ident) → known-regions Γ rs ≡ Ok u → All (λ r. Known-region Γ (r .name)) rs
+knowns-are Γ [] e = tt
+knowns-are Γ (r ∷ rs) e = let (n, p, q) = after (known-region Γ r) _ e in (known-is Γ r p, knowns-are Γ rs q)
 
 pub within-int : (Γ : Scope) → Within Γ int
 within-int Γ r m = absurd (true-false (sym m))
@@ -126,7 +127,7 @@ mutual
       let (l, m) = and-is _ _ (asked _ _ _ e₃) in
       let l′ = equal _ _ l in
       let m′ = equal _ _ m in
-      call-has (found-is (find-function F (g .name)) (g .place) e₁) l′ (knowns-are rs e₅) (needs-are args (needed f rs) (m′ ∙ sym (length-needed f rs)) e₇) (ok-is e₈)
+      call-has (found-is (find-function F (g .name)) (g .place) e₁) l′ (knowns-are Γ rs e₅) (needs-are args (needed f rs) (m′ ∙ sym (length-needed f rs)) e₇) (ok-is e₈)
   right-is {F} {Γ} (test p a b c) e =
       let (u, e₁, e₂) = after _ _ e in
       let (S, e₃, e₄) = bound _ _ e₂ in
@@ -201,9 +202,9 @@ body-is F f e =
     let (T, p, q) = bound (type-block F (header-scope f) (f .body)) _ e in
     subst (TypedBlock F (header-scope f) (f .body)) (same-type-is T (unplaced (f .result)) (asked _ _ _ q)) (block-is (f .body) p)
 
-bodies-are : {u : Unit {0}} (F fs : Script) → check-bodies F fs ≡ Ok u → TypedBodies F fs
-bodies-are F [] e = no-bodies
-bodies-are F (f ∷ fs) e = let (u, p, q) = after (check-body F f) _ e in more-bodies (body-is F f p) (bodies-are F fs q)
+bodies-are : {u : Unit {0}} (F fs : Script) → check-bodies F fs ≡ Ok u → All (TypedBody F) fs
+bodies-are F [] e = tt
+bodies-are F (f ∷ fs) e = let (u, p, q) = after (check-body F f) _ e in (body-is F f p, bodies-are F fs q)
 
 no-names : (rs : List Ident) → eqb (length rs) 0 ≡ true → rs ≡ []
 no-names [] e = refl

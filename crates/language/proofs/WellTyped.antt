@@ -9,6 +9,7 @@ use lib.Dec.{eqb, leb, ltb}
 use lib.ListN.{length}
 use Rattle.std.proofs.shelf.Ways.{tells}
 use Rattle.std.specs.Options.{isSome}
+use Rattle.std.specs.shelf.Lists.{All}
 use Rattle.std.specs.declared.option.Option.{Option}
 use Rattle.std.specs.declared.option.Option.the-variants.{Some, None}
 use Rattle.std.specs.declared.result.Result.{Result}
@@ -18,7 +19,7 @@ use Rattle.language.specs.Verdict.{Refused}
 use Rattle.language.specs.Syntax.{Ident, Ty, Atom, var, num, Right, atom, oper, nil, cons, call, test, region, split, Block, last, bind, print, Param, Fun, Script}
 use Rattle.language.specs.Types.{Name, RegionType, int, list, unplaced, same-type, mentions, depth}
 use Rattle.language.specs.Scope.{Scope, find-variable, find-region, find-function, with-variable, with-region, region-scope, header-scope, empty-scope}
-use Rattle.language.specs.Typing.{Known-region, Within, New-region, New-variable, most-params, most-variables, TypedAtom, variable-has, numeral-has, TypedAtoms, no-atoms, more-atoms, Known-regions, no-regions, more-regions, at-call, needed, TypedRight, atom-has, oper-has, nil-has, cons-has, call-has, test-has, region-has, split-has, TypedBlock, last-has, bind-has, print-has, New-regions, no-new-regions, more-new-regions, New-params, no-new-params, more-new-params, TypedHeader, TypedHeaders, no-headers, more-headers, TypedBody, TypedBodies, no-bodies, more-bodies, Main, TypedScript}
+use Rattle.language.specs.Typing.{Known-region, Within, New-region, New-variable, most-params, most-variables, TypedAtom, variable-has, numeral-has, TypedAtoms, no-atoms, more-atoms, at-call, needed, TypedRight, atom-has, oper-has, nil-has, cons-has, call-has, test-has, region-has, split-has, TypedBlock, last-has, bind-has, print-has, New-regions, no-new-regions, more-new-regions, New-params, no-new-params, more-new-params, TypedHeader, TypedHeaders, no-headers, more-headers, TypedBody, Main, TypedScript}
 use Rattle.language.specs.Checking.{_>>=_, _>>_, ask, found, known-region, known-regions, known-type, new-region, new-variable, atom-place, last-place, type-atom, need, need-all, element, type-right, type-block, check-regions, check-params, check-header, check-headers, one-int, main-like, check-main, check-body, check-bodies, checking}
 use Rattle.language.proofs.Names.{eqb-refl, same-bytes-refl, same-type-refl}
 use Rattle.language.proofs.Answered.{bind-says, then-says, ask-says, found-says, none-says, not-says, and-says, some-is}
@@ -39,9 +40,9 @@ new-variable-says most Γ x h = then-says (ask-says _ 10 _ (below-says _ _ (h .r
 known-says : (Γ : Scope) (r : Ident) → Known-region Γ (r .name) → (n : Name) × (known-region Γ r ≡ Ok n)
 known-says Γ r h = let (n, e) = some-is (find-region Γ (r .name)) h in (n, found-says (r .place) e)
 
-knowns-say : {Γ : Scope} {rs : List Ident} → Known-regions Γ rs → known-regions Γ rs ≡ Ok tt
-knowns-say no-regions = refl
-knowns-say {Γ} (more-regions {r = r} h hs) = then-says (known-says Γ r h .1) (knowns-say hs)
+knowns-say : (Γ : Scope) (rs : List Ident) → All (λ r. Known-region Γ (r .name)) rs → known-regions Γ rs ≡ Ok tt
+knowns-say Γ [] hs = refl
+knowns-say Γ (r ∷ rs) hs = then-says (known-says Γ r (hs .0) .1) (knowns-say Γ rs (hs .1))
 
 if-true : (b c : Bool) → b ≡ true → elim b [ true ↦ true | false ↦ c ] ≡ true
 if-true true c e = refl
@@ -82,10 +83,10 @@ mutual
   right-says {Γ = Γ} (nil-has {p = p} {r = r} {t = t} h w d) =
       then-says (known-says Γ r h .1) (bind-says _ (known-type-says Γ t w) (then-says (ask-says _ 15 p (at-most-says _ 5 d)) refl))
   right-says {Γ = Γ} (cons-has {r = r} h k l) = then-says (known-says Γ r h .1) (bind-says _ (atom-says k) (then-says (need-says l) refl))
-  right-says (call-has {g = g} {rs = rs} {args = args} {f = f} e l ks hs is) =
+  right-says {Γ = Γ} (call-has {g = g} {rs = rs} {args = args} {f = f} e l ks hs is) =
       bind-says _ (found-says (g .place) e)
         (then-says (ask-says _ 16 (g .place) (and-says (eqb-says (length rs) (length (f .regions)) l) (eqb-says (length args) (length (f .params)) (as-many hs ∙ length-needed f rs))))
-          (then-says (knowns-say ks) (then-says (needs-say hs) (cc))))
+          (then-says (knowns-say Γ rs ks) (then-says (needs-say hs) (cc))))
   right-says (test-has {c = c} {T = T} h k l) =
       then-says (need-says h) (bind-says _ (block-says k) (bind-says _ (block-says l) (then-says (ask-says _ 13 (last-place c) (same-type-refl T)) refl)))
   right-says {Γ = Γ} (region-has {r = r} {b = b} n h m) =
@@ -122,9 +123,9 @@ headers-say (more-headers {G = G} {f = f} new room h hs) = then-says (header-say
 body-says : (F : Script) (f : Fun) → TypedBody F f → check-body F f ≡ Ok tt
 body-says F f h = bind-says _ (block-says h) (ask-says _ 13 (last-place (f .body)) (same-type-refl (unplaced (f .result))))
 
-bodies-say : {F fs : Script} → TypedBodies F fs → check-bodies F fs ≡ Ok tt
-bodies-say no-bodies = refl
-bodies-say {F} (more-bodies {f = f} h hs) = then-says (body-says F f h) (bodies-say hs)
+bodies-say : (F fs : Script) → All (TypedBody F) fs → check-bodies F fs ≡ Ok tt
+bodies-say F [] hs = refl
+bodies-say F (f ∷ fs) hs = then-says (body-says F f (hs .0)) (bodies-say F fs (hs .1))
 
 one-int-says : (qs : List Param) → map (λ q. unplaced (q .type)) qs ≡ (int ∷ []) → one-int qs ≡ true
 one-int-says [] e = cc
@@ -141,4 +142,4 @@ pub typed-passes : (end : ℕ) (F : Script) → TypedScript F → checking end F
 typed-passes end F h =
     let (f, e, m) = h .main-is in
     then-says (headers-say (h .headers))
-      (then-says (rw e (ask-says (main-like f) 9 (f .name .place) (main-says f m))) (then-says (bodies-say (h .bodies)) refl))
+      (then-says (rw e (ask-says (main-like f) 9 (f .name .place) (main-says f m))) (then-says (bodies-say F F (h .bodies)) refl))

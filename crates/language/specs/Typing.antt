@@ -7,6 +7,7 @@ use lib.Chars.{codes}
 use lib.IntN.{ℤ}
 use lib.ListN.{length}
 use Rattle.std.specs.Options.{isSome}
+use Rattle.std.specs.shelf.Lists.{All}
 use Rattle.std.specs.declared.option.Option.{Option}
 use Rattle.std.specs.declared.option.Option.the-variants.{Some, None}
 use Rattle.language.specs.Syntax.{Ident, Ty, Atom, var, num, Op, Right, atom, oper, nil, cons, call, test, region, split, Block, last, bind, print, Param, Fun, Script}
@@ -48,11 +49,6 @@ pub data TypedAtoms (Γ : Scope) : List Atom → List RegionType → Type 0 wher
   no-atoms : TypedAtoms Γ [] []
   more-atoms : {a : Atom} {T : RegionType} {args : List Atom} {Ts : List RegionType} → TypedAtom Γ a T → TypedAtoms Γ args Ts → TypedAtoms Γ (a ∷ args) (T ∷ Ts)
 
--- regions that are all in scope
-pub data Known-regions (Γ : Scope) : List Ident → Type 0 where
-  no-regions : Known-regions Γ []
-  more-regions : {r : Ident} {rs : List Ident} → Known-region Γ (r .name) → Known-regions Γ rs → Known-regions Γ (r ∷ rs)
-
 -- a type of the callee's header, seen from a call that hands over these regions
 abbrev pub at-call : Fun → List Ident → Ty → RegionType
 at-call f rs t = replaced (names (f .regions)) (names rs) (unplaced t)
@@ -71,7 +67,7 @@ mutual
     cons-has : {Γ : Scope} {p : ℕ} {r : Ident} {a b : Atom} {T : RegionType} →
         Known-region Γ (r .name) → TypedAtom Γ a T → TypedAtom Γ b (list (r .name) T) → TypedRight F Γ (cons p r a b) (list (r .name) T)
     call-has : {Γ : Scope} {p : ℕ} {g : Ident} {rs : List Ident} {args : List Atom} {f : Fun} {T : RegionType} →
-        find-function F (g .name) ≡ Some f → length rs ≡ length (f .regions) → Known-regions Γ rs → TypedAtoms Γ args (needed f rs) →
+        find-function F (g .name) ≡ Some f → length rs ≡ length (f .regions) → All (λ r. Known-region Γ (r .name)) rs → TypedAtoms Γ args (needed f rs) →
         at-call f rs (f .result) ≡ T → TypedRight F Γ (call p g rs args) T
     test-has : {Γ : Scope} {p : ℕ} {a : Atom} {b c : Block} {T : RegionType} → TypedAtom Γ a int → TypedBlock F Γ b T → TypedBlock F Γ c T → TypedRight F Γ (test p a b c) T
     region-has : {Γ : Scope} {p : ℕ} {r : Ident} {b : Block} {T : RegionType} →
@@ -115,10 +111,6 @@ pub data TypedHeaders : Script → Script → Type 0 where
 abbrev pub TypedBody : Script → Fun → Type 0
 TypedBody F f = TypedBlock F (header-scope f) (f .body) (unplaced (f .result))
 
-pub data TypedBodies (F : Script) : Script → Type 0 where
-  no-bodies : TypedBodies F []
-  more-bodies : {f : Fun} {fs : Script} → TypedBody F f → TypedBodies F fs → TypedBodies F (f ∷ fs)
-
 -- a main that a session can start: no regions, one int parameter, an int result
 pub record Main (f : Fun) : Type 0 where
   pub no-region : f .regions ≡ []
@@ -129,4 +121,4 @@ pub record Main (f : Fun) : Type 0 where
 pub record TypedScript (F : Script) : Type 0 where
   pub headers : TypedHeaders [] F
   pub main-is : (f : Fun) × (find-function F (codes "main") ≡ Some f) × Main f
-  pub bodies : TypedBodies F F
+  pub bodies : All (TypedBody F) F
