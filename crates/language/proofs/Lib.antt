@@ -2,3 +2,5 @@ pub mod Names
 pub mod Answered
 pub mod Passing
 pub mod WellTyped
+pub mod Unique
+pub mod InScope

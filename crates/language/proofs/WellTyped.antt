@@ -44,11 +44,11 @@ knowns-say : (Γ : Scope) (rs : List Ident) → All (λ r. Known-region Γ (r .n
 knowns-say Γ [] hs = refl
 knowns-say Γ (r ∷ rs) hs = then-says (known-says Γ r (hs .0) .1) (knowns-say Γ rs (hs .1))
 
-if-true : (b c : Bool) → b ≡ true → elim b [ true ↦ true | false ↦ c ] ≡ true
+pub if-true : (b c : Bool) → b ≡ true → elim b [ true ↦ true | false ↦ c ] ≡ true
 if-true true c e = refl
 if-true false c e = cc
 
-or-later : (b c : Bool) → c ≡ true → elim b [ true ↦ true | false ↦ c ] ≡ true
+pub or-later : (b c : Bool) → c ≡ true → elim b [ true ↦ true | false ↦ c ] ≡ true
 or-later true c e = refl
 or-later false c e = e
 
@@ -58,7 +58,7 @@ known-type-says Γ (Ty.list r t) w =
     then-says (known-says Γ r (w (r .name) (if-true (same-bytes (r .name) (r .name)) _ (same-bytes-refl (r .name)))) .1)
       (bind-says _ (known-type-says Γ t (λ s m. w s (or-later (same-bytes (r .name) s) _ m))) refl)
 
-atom-says : {Γ : Scope} {a : Atom} {T : RegionType} → TypedAtom Γ a T → type-atom Γ a ≡ Ok T
+pub atom-says : {Γ : Scope} {a : Atom} {T : RegionType} → TypedAtom Γ a T → type-atom Γ a ≡ Ok T
 atom-says (variable-has {x = x} {v = v} e is) = bind-says _ (found-says (x .place) e) (cc)
 atom-says numeral-has = refl
 

@@ -4,3 +4,4 @@ pub mod Types
 pub mod Scope
 pub mod Typing
 pub mod Checking
+pub mod TypingLaws
