@@ -1,1 +1,5 @@
 pub mod Syntax
+pub mod Verdict
+pub mod Spelling
+pub mod Nesting
+pub mod Reading
