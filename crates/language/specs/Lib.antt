@@ -1,5 +1,8 @@
 pub mod Syntax
 pub mod Verdict
+pub mod Spelling
+pub mod Nesting
+pub mod Reading
 pub mod Types
 pub mod Scope
 pub mod Typing

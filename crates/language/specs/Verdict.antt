@@ -1,4 +1,4 @@
--- A refusal: the number of the question that fails, and its place in the text.
+-- The answer to a question that fails: its number and its place in the text.
 use Prim.Native.Nat.{ℕ}
 
 pub record Refused : Type 0 where
