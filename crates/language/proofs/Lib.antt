@@ -4,3 +4,4 @@ pub mod Passing
 pub mod WellTyped
 pub mod Unique
 pub mod InScope
+pub mod Exactly

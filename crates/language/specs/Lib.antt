@@ -8,3 +8,4 @@ pub mod Scope
 pub mod Typing
 pub mod Checking
 pub mod TypingLaws
+pub mod CheckingExamples
