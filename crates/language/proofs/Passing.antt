@@ -17,9 +17,9 @@ use Rattle.std.specs.declared.result.Result.the-variants.{Ok, Err}
 use Rattle.lexing.specs.Tokens.{same-bytes}
 use Rattle.language.specs.Verdict.{Refused}
 use Rattle.language.specs.Syntax.{Ident, Ty, Atom, var, num, Right, atom, oper, nil, cons, call, test, region, split, Block, last, bind, print, Param, Fun, Script}
-use Rattle.language.specs.Types.{Name, RegionType, int, list, unplaced, same-type, mentions, depth}
-use Rattle.language.specs.Scope.{Scope, find-variable, find-region, find-function, with-variable, with-region, region-scope, header-scope, empty-scope}
-use Rattle.language.specs.Typing.{Known-region, Within, New-region, New-variable, most-params, most-variables, TypedAtom, variable-has, numeral-has, TypedAtoms, no-atoms, more-atoms, at-call, needed, TypedRight, atom-has, oper-has, nil-has, cons-has, call-has, test-has, region-has, split-has, TypedBlock, last-has, bind-has, print-has, New-regions, no-new-regions, more-new-regions, New-params, no-new-params, more-new-params, TypedHeader, TypedHeaders, no-headers, more-headers, TypedBody, Main, TypedScript}
+use Rattle.language.specs.Types.{Name, RegionType, int, list, unplaced, same-type, mentions, depth, deepest}
+use Rattle.language.specs.Scope.{most-functions, most-params, most-regions, most-variables, Scope, find-variable, find-region, find-function, with-variable, with-region, region-scope, header-scope, empty-scope}
+use Rattle.language.specs.Typing.{Known-region, Within, New-region, New-variable, TypedAtom, variable-has, numeral-has, TypedAtoms, no-atoms, more-atoms, at-call, needed, TypedRight, atom-has, oper-has, nil-has, cons-has, call-has, test-has, region-has, split-has, TypedBlock, last-has, bind-has, print-has, New-regions, no-new-regions, more-new-regions, New-params, no-new-params, more-new-params, TypedHeader, TypedHeaders, no-headers, more-headers, TypedBody, Main, TypedScript}
 use Rattle.language.specs.Checking.{_>>=_, _>>_, ask, found, known-region, known-regions, known-type, new-region, new-variable, atom-place, last-place, type-atom, need, need-all, element, type-right, type-block, check-regions, check-params, check-header, check-headers, one-int, main-like, check-main, check-body, check-bodies, checking}
 use Rattle.language.proofs.Names.{true-false, same-bytes-is, same-type-is}
 use Rattle.language.proofs.Answered.{bound, after, ok-is, asked, found-is, none-is, some-is, not-is, and-is}
@@ -101,6 +101,14 @@ length-needed f rs = length-map-is (f .params)
     length-map-is [] = refl
     length-map-is (q ∷ qs) = cc (length-map-is qs)
 
+split-is : {F : Script} {Γ : Scope} {p : ℕ} {a : Atom} {b c : Block} {x y : Ident} (L : RegionType) (r : Name) (R S U T : RegionType) → L ≡ list r R → U ≡ S → S ≡ T →
+    TypedAtom Γ a L → TypedBlock F Γ b S → New-variable most-variables Γ x → New-variable most-variables (with-variable Γ x R) y →
+    TypedBlock F (with-variable (with-variable Γ x R) y L) c U → TypedRight F Γ (split p a b x y c) T
+split-is {F} {Γ} {p} {a} {b} {c} {x} {y} L r R S U T is same ends h k m n l =
+    subst (TypedRight F Γ (split p a b x y c)) ends
+      (split-has (subst (TypedAtom Γ a) is h) k m n
+        (subst (λ K. TypedBlock F (with-variable (with-variable Γ x R) y K) c S) is (subst (TypedBlock F (with-variable (with-variable Γ x R) y L) c) same l)))
+
 mutual
   pub right-is : {F : Script} {Γ : Scope} {T : RegionType} (r : Right) → type-right F Γ r ≡ Ok T → TypedRight F Γ r T
   right-is (atom a) e = atom-has (atom-is a e)
@@ -113,7 +121,7 @@ mutual
       let (S, e₃, e₄) = bound _ _ e₂ in
       let (u, e₅, e₆) = after _ _ e₄ in
       let h = known-type-is {Γ = Γ} t e₃ in
-      subst (TypedRight F Γ (nil p r t)) (cc (h .is)) (nil-has (known-is Γ r e₁) (h .within) (subst (λ U. depth (list (r .name) U) ≤ 5) (h .is) (at-most (depth (list (r .name) S)) 5 (asked _ 15 p e₅))))
+      subst (TypedRight F Γ (nil p r t)) (cc (h .is)) (nil-has (known-is Γ r e₁) (h .within) (subst (λ U. depth (list (r .name) U) ≤ deepest) (h .is) (at-most (depth (list (r .name) S)) deepest (asked _ 15 p e₅))))
   right-is {F} {Γ} (cons p r a b) e =
       let (n, e₁, e₂) = after _ _ e in
       let (S, e₃, e₄) = bound _ _ e₂ in
@@ -140,7 +148,7 @@ mutual
       let (S, e₃, e₄) = bound _ _ e₂ in
       let (v, e₅, e₆) = after _ _ e₄ in
       subst (TypedRight F Γ (region p r b)) (ok-is e₆) (region-has (new-region-is e₁) (block-is b e₃) (not-is _ (asked _ _ _ e₅)))
-  right-is {F} {Γ} (split p a b x y c) e =
+  right-is {F} {Γ} {T} (split p a b x y c) e =
       let (L, e₁, e₂) = bound _ _ e in
       let (s, e₃, e₄) = bound _ _ e₂ in
       let (S, e₅, e₆) = bound _ _ e₄ in
@@ -148,11 +156,8 @@ mutual
       let (v, e₉, d₀) = after _ _ e₈ in
       let (U, d₁, d₂) = bound _ _ d₀ in
       let (w, d₃, d₄) = after _ _ d₂ in
-      let is : L ≡ list (s .0) (s .1) = element-is L (atom-place a) e₃ in
-      subst (TypedRight F Γ (split p a b x y c)) (ok-is d₄)
-          (split-has (subst (TypedAtom Γ a) is (atom-is a e₁)) (block-is b e₅) (new-variable-is e₇) (new-variable-is e₉)
-            (subst (λ K. TypedBlock F (with-variable (with-variable Γ x (s .1)) y K) c S) is
-              (subst (TypedBlock F (with-variable (with-variable Γ x (s .1)) y L) c) (same-type-is U S (asked _ _ _ d₃)) (block-is c d₁))))
+      split-is L (s .0) (s .1) S U T (element-is L (atom-place a) e₃) (same-type-is U S (asked _ _ _ d₃)) (ok-is d₄)
+        (atom-is a e₁) (block-is b e₅) (new-variable-is e₇) (new-variable-is e₉) (block-is c d₁)
 
   pub block-is : {F : Script} {Γ : Scope} {T : RegionType} (b : Block) → type-block F Γ b ≡ Ok T → TypedBlock F Γ b T
   block-is (last a) e = last-has (atom-is a e)
@@ -176,7 +181,7 @@ params-are Γ (q ∷ qs) e =
     let h = known-type-is {Γ = Γ} (q .type) e₃ in
     more-new-params (new-variable-is e₁) (h .within) (params-are (with-variable Γ (q .name) (unplaced (q .type))) qs (rw (← h .is) e₄))
 
-header-is : {u : Unit {0}} (G : Script) (f : Fun) → check-header G f ≡ Ok u → (find-function G (f .name .name) ≡ None) × (length G < 64) × TypedHeader f
+header-is : {u : Unit {0}} (G : Script) (f : Fun) → check-header G f ≡ Ok u → (find-function G (f .name .name) ≡ None) × (length G < most-functions) × TypedHeader f
 header-is G f e =
     let (u₁, e₁, r₁) = after _ _ e in
     let (u₂, e₂, r₂) = after _ _ r₁ in

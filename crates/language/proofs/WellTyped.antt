@@ -17,9 +17,9 @@ use Rattle.std.specs.declared.result.Result.the-variants.{Ok, Err}
 use Rattle.lexing.specs.Tokens.{same-bytes}
 use Rattle.language.specs.Verdict.{Refused}
 use Rattle.language.specs.Syntax.{Ident, Ty, Atom, var, num, Right, atom, oper, nil, cons, call, test, region, split, Block, last, bind, print, Param, Fun, Script}
-use Rattle.language.specs.Types.{Name, RegionType, int, list, unplaced, same-type, mentions, depth}
-use Rattle.language.specs.Scope.{Scope, find-variable, find-region, find-function, with-variable, with-region, region-scope, header-scope, empty-scope}
-use Rattle.language.specs.Typing.{Known-region, Within, New-region, New-variable, most-params, most-variables, TypedAtom, variable-has, numeral-has, TypedAtoms, no-atoms, more-atoms, at-call, needed, TypedRight, atom-has, oper-has, nil-has, cons-has, call-has, test-has, region-has, split-has, TypedBlock, last-has, bind-has, print-has, New-regions, no-new-regions, more-new-regions, New-params, no-new-params, more-new-params, TypedHeader, TypedHeaders, no-headers, more-headers, TypedBody, Main, TypedScript}
+use Rattle.language.specs.Types.{Name, RegionType, int, list, unplaced, same-type, mentions, depth, deepest}
+use Rattle.language.specs.Scope.{most-functions, most-params, most-regions, most-variables, Scope, find-variable, find-region, find-function, with-variable, with-region, region-scope, header-scope, empty-scope}
+use Rattle.language.specs.Typing.{Known-region, Within, New-region, New-variable, TypedAtom, variable-has, numeral-has, TypedAtoms, no-atoms, more-atoms, at-call, needed, TypedRight, atom-has, oper-has, nil-has, cons-has, call-has, test-has, region-has, split-has, TypedBlock, last-has, bind-has, print-has, New-regions, no-new-regions, more-new-regions, New-params, no-new-params, more-new-params, TypedHeader, TypedHeaders, no-headers, more-headers, TypedBody, Main, TypedScript}
 use Rattle.language.specs.Checking.{_>>=_, _>>_, ask, found, known-region, known-regions, known-type, new-region, new-variable, atom-place, last-place, type-atom, need, need-all, element, type-right, type-block, check-regions, check-params, check-header, check-headers, one-int, main-like, check-main, check-body, check-bodies, checking}
 use Rattle.language.proofs.Names.{eqb-refl, same-bytes-refl, same-type-refl}
 use Rattle.language.proofs.Answered.{bind-says, then-says, ask-says, found-says, none-says, not-says, and-says, some-is}
@@ -81,7 +81,7 @@ mutual
   right-says (atom-has h) = atom-says h
   right-says (oper-has h k) = then-says (need-says h) (then-says (need-says k) refl)
   right-says {Γ = Γ} (nil-has {p = p} {r = r} {t = t} h w d) =
-      then-says (known-says Γ r h .1) (bind-says _ (known-type-says Γ t w) (then-says (ask-says _ 15 p (at-most-says _ 5 d)) refl))
+      then-says (known-says Γ r h .1) (bind-says _ (known-type-says Γ t w) (then-says (ask-says _ 15 p (at-most-says _ deepest d)) refl))
   right-says {Γ = Γ} (cons-has {r = r} h k l) = then-says (known-says Γ r h .1) (bind-says _ (atom-says k) (then-says (need-says l) refl))
   right-says {Γ = Γ} (call-has {g = g} {rs = rs} {args = args} {f = f} e l ks hs is) =
       bind-says _ (found-says (g .place) e)
@@ -93,12 +93,12 @@ mutual
       then-says (new-region-says Γ r n) (bind-says _ (block-says h) (then-says (ask-says _ 14 (last-place b) (not-says m)) refl))
   right-says {Γ = Γ} (split-has {c = c} {x = x} {y = y} {S = S} {T = T} h k m n l) =
       bind-says _ (atom-says h) (bind-says _ (block-says k)
-        (then-says (new-variable-says 32 Γ x m) (then-says (new-variable-says 32 (with-variable Γ x S) y n)
+        (then-says (new-variable-says most-variables Γ x m) (then-says (new-variable-says most-variables (with-variable Γ x S) y n)
           (bind-says _ (block-says l) (then-says (ask-says _ 13 (last-place c) (same-type-refl T)) refl)))))
 
   pub block-says : {F : Script} {Γ : Scope} {b : Block} {T : RegionType} → TypedBlock F Γ b T → type-block F Γ b ≡ Ok T
   block-says (last-has h) = atom-says h
-  block-says {Γ = Γ} (bind-has {x = x} n h k) = then-says (new-variable-says 32 Γ x n) (bind-says _ (right-says h) (block-says k))
+  block-says {Γ = Γ} (bind-has {x = x} n h k) = then-says (new-variable-says most-variables Γ x n) (bind-says _ (right-says h) (block-says k))
   block-says (print-has h k) = then-says (need-says h) (block-says k)
 
 regions-say : {Γ : Scope} {rs : List Ident} → New-regions Γ rs → check-regions Γ rs ≡ Ok tt
@@ -108,9 +108,9 @@ regions-say (more-new-regions {Γ = Γ} {r = r} h hs) = then-says (new-region-sa
 params-say : {Γ : Scope} {qs : List Param} → New-params Γ qs → check-params Γ qs ≡ Ok tt
 params-say no-new-params = refl
 params-say (more-new-params {Γ = Γ} {q = q} h w hs) =
-    then-says (new-variable-says 8 Γ (q .name) h) (bind-says _ (known-type-says Γ (q .type) w) (params-say hs))
+    then-says (new-variable-says most-params Γ (q .name) h) (bind-says _ (known-type-says Γ (q .type) w) (params-say hs))
 
-header-says : (G : Script) (f : Fun) → find-function G (f .name .name) ≡ None → length G < 64 → TypedHeader f → check-header G f ≡ Ok tt
+header-says : (G : Script) (f : Fun) → find-function G (f .name .name) ≡ None → length G < most-functions → TypedHeader f → check-header G f ≡ Ok tt
 header-says G f new room h =
     then-says (ask-says _ 8 (f .name .place) (none-says new)) (then-says (ask-says _ 10 (f .name .place) (below-says _ _ room))
       (then-says (regions-say (h .regions-new)) (then-says (params-say (h .params-new))

@@ -12,9 +12,9 @@ use Rattle.std.specs.declared.result.Result.{Result}
 use Rattle.std.specs.declared.result.Result.the-variants.{Ok, Err}
 use Rattle.language.specs.Verdict.{Refused}
 use Rattle.language.specs.Syntax.{Ident, Ty, Atom, var, num, Right, atom, oper, nil, cons, call, test, region, split, Block, last, bind, print, Param, Fun, Script}
-use Rattle.language.specs.Types.{Name, RegionType, int, list, unplaced, same-type, mentions, depth}
-use Rattle.language.specs.Scope.{Scope, find-variable, find-region, find-function, with-variable, with-region, region-scope, header-scope, empty-scope}
-use Rattle.language.specs.Typing.{at-call, needed, most-params, most-variables}
+use Rattle.language.specs.Types.{Name, RegionType, int, list, unplaced, same-type, mentions, depth, deepest}
+use Rattle.language.specs.Scope.{most-functions, most-params, most-regions, most-variables, Scope, find-variable, find-region, find-function, with-variable, with-region, region-scope, header-scope, empty-scope}
+use Rattle.language.specs.Typing.{at-call, needed}
 
 infixr 30 _>>=_ _>>_
 
@@ -57,7 +57,7 @@ known-type Γ (Ty.list r t) = do
 -- a region may take that name
 abbrev pub new-region : Scope → Ident → Result (Unit {0}) Refused
 new-region Γ r = do
-  ask (ltb (length (Γ .regions)) 8) 10 (r .place)
+  ask (ltb (length (Γ .regions)) most-regions) 10 (r .place)
   ask (not (isSome (find-region Γ (r .name)))) 12 (r .place)
 
 -- a variable may take that name
@@ -111,7 +111,7 @@ abbrev mutual
   type-right F Γ (nil p r t) = do
     known-region Γ r
     T ← known-type Γ t
-    ask (leb (depth (list (r .name) T)) 5) 15 p
+    ask (leb (depth (list (r .name) T)) deepest) 15 p
     Ok (list (r .name) T)
   type-right F Γ (cons p r a b) = do
     known-region Γ r
@@ -173,7 +173,7 @@ check-params Γ (q ∷ qs) = do
 abbrev pub check-header : Script → Fun → Result (Unit {0}) Refused
 check-header G f = do
   ask (not (isSome (find-function G (f .name .name)))) 8 (f .name .place)
-  ask (ltb (length G) 64) 10 (f .name .place)
+  ask (ltb (length G) most-functions) 10 (f .name .place)
   check-regions empty-scope (f .regions)
   check-params (region-scope f) (f .params)
   known-type (header-scope f) (f .result)

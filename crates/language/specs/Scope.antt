@@ -9,6 +9,20 @@ use Rattle.lexing.specs.Tokens.{same-bytes}
 use Rattle.language.specs.Syntax.{Ident, Param, Fun, Script}
 use Rattle.language.specs.Types.{Name, RegionType, unplaced}
 
+-- how many functions a script, and how many parameters a function may have
+abbrev pub most-functions : ℕ
+most-functions = 64
+
+abbrev pub most-params : ℕ
+most-params = 8
+
+-- how many regions, and how many variables may be in scope
+abbrev pub most-regions : ℕ
+most-regions = 8
+
+abbrev pub most-variables : ℕ
+most-variables = 32
+
 -- the first entry of that name, or none
 abbrev pub find : {A : Type 0} → (A → Name) → Name → List A → Option A
 find name-of n [] = None

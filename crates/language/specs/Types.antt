@@ -36,6 +36,10 @@ abbrev pub depth : RegionType → ℕ
 depth int = 0
 depth (list r T) = suc (depth T)
 
+-- how deep the type of a list may be nested
+abbrev pub deepest : ℕ
+deepest = 5
+
 -- the name that stands for r, where each of `olds` gives way to the one of `news` at its place
 abbrev pub renamed : List Name → List Name → Name → Name
 renamed [] news r = r

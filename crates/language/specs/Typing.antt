@@ -11,8 +11,8 @@ use Rattle.std.specs.shelf.Lists.{All}
 use Rattle.std.specs.declared.option.Option.{Option}
 use Rattle.std.specs.declared.option.Option.the-variants.{Some, None}
 use Rattle.language.specs.Syntax.{Ident, Ty, Atom, var, num, Op, Right, atom, oper, nil, cons, call, test, region, split, Block, last, bind, print, Param, Fun, Script}
-use Rattle.language.specs.Types.{Name, RegionType, int, list, unplaced, mentions, depth, replaced}
-use Rattle.language.specs.Scope.{Scope, Variable, find-variable, find-region, find-function, with-variable, with-region, names, region-scope, header-scope, empty-scope}
+use Rattle.language.specs.Types.{Name, RegionType, int, list, unplaced, mentions, depth, deepest, replaced}
+use Rattle.language.specs.Scope.{most-functions, most-params, most-regions, most-variables, Scope, Variable, find-variable, find-region, find-function, with-variable, with-region, names, region-scope, header-scope, empty-scope}
 
 -- the region is in scope
 abbrev pub Known-region : Scope → Name → Type 0
@@ -22,22 +22,15 @@ Known-region Γ r = isSome (find-region Γ r) ≡ true
 abbrev pub Within : Scope → RegionType → Type 0
 Within Γ T = (r : Name) → mentions r T ≡ true → Known-region Γ r
 
--- a region may take that name: at most 8 are in scope then, and none has it yet
+-- a region may take that name: there is room for one more in scope, and none has it yet
 pub record New-region (Γ : Scope) (r : Ident) : Type 0 where
-  pub room : length (Γ .regions) < 8
+  pub room : length (Γ .regions) < most-regions
   pub unused : find-region Γ (r .name) ≡ None
 
--- a variable may take that name: at most so many are in scope then, and none has it yet
+-- a variable may take that name: there is room for one more in scope, and none has it yet
 pub record New-variable (most : ℕ) (Γ : Scope) (x : Ident) : Type 0 where
   pub room : length (Γ .variables) < most
   pub unused : find-variable Γ (x .name) ≡ None
-
--- how many parameters a function may have, and how many variables may be in scope
-abbrev pub most-params : ℕ
-most-params = 8
-
-abbrev pub most-variables : ℕ
-most-variables = 32
 
 -- a variable has the type of its entry, a numeral is an int
 pub data TypedAtom (Γ : Scope) : Atom → RegionType → Type 0 where
@@ -63,7 +56,7 @@ mutual
     atom-has : {Γ : Scope} {a : Atom} {T : RegionType} → TypedAtom Γ a T → TypedRight F Γ (atom a) T
     oper-has : {Γ : Scope} {p : ℕ} {o : Op} {a b : Atom} → TypedAtom Γ a int → TypedAtom Γ b int → TypedRight F Γ (oper p o a b) int
     nil-has : {Γ : Scope} {p : ℕ} {r : Ident} {t : Ty} →
-        Known-region Γ (r .name) → Within Γ (unplaced t) → depth (list (r .name) (unplaced t)) ≤ 5 → TypedRight F Γ (nil p r t) (list (r .name) (unplaced t))
+        Known-region Γ (r .name) → Within Γ (unplaced t) → depth (list (r .name) (unplaced t)) ≤ deepest → TypedRight F Γ (nil p r t) (list (r .name) (unplaced t))
     cons-has : {Γ : Scope} {p : ℕ} {r : Ident} {a b : Atom} {T : RegionType} →
         Known-region Γ (r .name) → TypedAtom Γ a T → TypedAtom Γ b (list (r .name) T) → TypedRight F Γ (cons p r a b) (list (r .name) T)
     call-has : {Γ : Scope} {p : ℕ} {g : Ident} {rs : List Ident} {args : List Atom} {f : Fun} {T : RegionType} →
@@ -105,7 +98,7 @@ pub record TypedHeader (f : Fun) : Type 0 where
 pub data TypedHeaders : Script → Script → Type 0 where
   no-headers : {G : Script} → TypedHeaders G []
   more-headers : {G : Script} {f : Fun} {fs : Script} →
-      find-function G (f .name .name) ≡ None → length G < 64 → TypedHeader f → TypedHeaders (G ++ (f ∷ [])) fs → TypedHeaders G (f ∷ fs)
+      find-function G (f .name .name) ≡ None → length G < most-functions → TypedHeader f → TypedHeaders (G ++ (f ∷ [])) fs → TypedHeaders G (f ∷ fs)
 
 -- a function's block has the declared result type
 abbrev pub TypedBody : Script → Fun → Type 0
