@@ -1,7 +1,4 @@
 -- The typing rules hold exactly of the scripts that checking passes: both directions together.
-use mathlib.Core.Path.{_≡_, _∙_, sym, ap}
-use Prim.Native.Nat.{ℕ}
-use Rattle.std.specs.declared.result.Result.the-variants.{Ok}
 use Rattle.language.specs.TypingLaws.{Passes-exactly-the-typed}
 use Rattle.language.proofs.Passing.{passed-is}
 use Rattle.language.proofs.WellTyped.{typed-passes}

@@ -1,20 +1,20 @@
 -- Wherever the walk over a well-typed script comes, types mention only regions in scope.
 use mathlib.Core.Path.{_≡_, refl, sym, ap, subst, _∙_}
 use mathlib.Core.Bool.{Bool, true, false}
-use mathlib.Core.List.{List, [], _∷_, _++_, map}
+use mathlib.Core.List.{List, [], _∷_, _++_}
 use mathlib.Core.Logic.{_⊎_, inl, inr}
-use Prim.Native.Nat.{ℕ, suc}
+use Prim.Native.Nat.{ℕ}
 use native.Mathlib.Omega.{arith}
 use lib.ListN.{length}
 use Rattle.std.specs.Options.{isSome}
 use Rattle.std.specs.shelf.Lists.{All}
-use Rattle.std.specs.declared.option.Option.{Option}
 use Rattle.std.specs.declared.option.Option.the-variants.{Some, None}
 use Rattle.std.proofs.shelf.Elements.{all-push, all-weaker, all-map, all-has}
+use Rattle.std.proofs.shelf.Lists.{length-map}
 use Rattle.lexing.specs.Tokens.{same-bytes}
 use Rattle.language.specs.Syntax.{Ident, Ty, Atom, Right, Block, bind, print, test, region, split, Param, Fun, Script}
 use Rattle.language.specs.Types.{Name, RegionType, int, list, unplaced, mentions, renamed, replaced}
-use Rattle.language.specs.Scope.{Scope, Variable, find, find-region, find-variable, find-function, with-variable, with-region, names, as-variable, region-scope, header-scope}
+use Rattle.language.specs.Scope.{Scope, find, with-variable, with-region, names, as-variable, header-scope}
 use Rattle.language.specs.Typing.{Known-region, Within, TypedAtom, variable-has, numeral-has, at-call, TypedRight, atom-has, oper-has, nil-has, cons-has, call-has, test-has, region-has, split-has, TypedBlock, last-has, bind-has, print-has, New-params, no-new-params, more-new-params, TypedHeader, TypedHeaders, no-headers, more-headers, TypedBody, TypedScript}
 use Rattle.language.specs.TypingLaws.{Reached, whole-body, behind-let, behind-print, test-first, test-second, in-region, case-first, case-second, Types-stay-in-scope}
 use Rattle.language.proofs.Names.{true-false, same-bytes-is, same-bytes-refl}
@@ -23,7 +23,7 @@ use Rattle.language.proofs.WellTyped.{if-true, or-later}
 use Rattle.language.proofs.Unique.{types-are-unique}
 
 -- each variable's type mentions only regions in scope
-abbrev Scoped : Scope → Type 0
+abbrev pub Scoped : Scope → Type 0
 Scoped Γ = All (λ v. Within Γ (v .type)) (Γ .variables)
 
 -- what holds of each entry holds of the one that is found
@@ -65,8 +65,9 @@ within-longer Γ r T w s m = known-longer s (r .name) (Γ .regions) (w s m)
 
 within-shorter : (Γ : Scope) (r : Ident) (T : RegionType) → Within (with-region Γ r) T → mentions (r .name) T ≡ false → Within Γ T
 within-shorter Γ r T w n s m = elim (known-shorter s (r .name) (Γ .regions) (w s m)) [
-    inl k ↦ k
-  | inr is ↦ absurd (true-false (sym m ∙ ap (λ t. mentions t T) (sym is) ∙ n)) ]
+  | inl k ↦ k
+  | inr is ↦ absurd (true-false (sym m ∙ ap (λ t. mentions t T) (sym is) ∙ n))
+]
 
 within-head : (Γ : Scope) (r : Name) (T : RegionType) → Within Γ (list r T) → Known-region Γ r
 within-head Γ r T w = w r (if-true (same-bytes r r) _ (same-bytes-refl r))
@@ -92,15 +93,11 @@ replaced-within : (Γ Δ : Scope) (rs : List Ident) (T : RegionType) → length 
 replaced-within Γ Δ rs int l hs w = within-int Γ
 replaced-within Γ Δ rs (list r T) l hs w =
     within-list Γ (renamed (Δ .regions) (names rs) r) (replaced (Δ .regions) (names rs) T)
-      (renamed-known Γ (Δ .regions) rs r l hs (within-head Δ r T w)) (replaced-within Γ Δ rs T l hs (within-tail Δ r T w))
-
-length-names : (rs : List Ident) → length (names rs) ≡ length rs
-length-names [] = refl
-length-names (r ∷ rs) = cc (length-names rs)
+    (renamed-known Γ (Δ .regions) rs r l hs (within-head Δ r T w)) (replaced-within Γ Δ rs T l hs (within-tail Δ r T w))
 
 call-within : (Γ : Scope) (f : Fun) (rs : List Ident) (t : Ty) → length rs ≡ length (f .regions) → All (λ r. Known-region Γ (r .name)) rs → Within (header-scope f) (unplaced t) →
     Within Γ (at-call f rs t)
-call-within Γ f rs t l hs w = replaced-within Γ (header-scope f) rs (unplaced t) (l ∙ sym (length-names (f .regions))) hs w
+call-within Γ f rs t l hs w = replaced-within Γ (header-scope f) rs (unplaced t) (l ∙ sym (length-map (f .regions) (λ r. r .name))) hs w
 
 scoped-more : (Γ : Scope) (x : Ident) (S : RegionType) → Scoped Γ → Within Γ S → Scoped (with-variable Γ x S)
 scoped-more Γ x S h w = all-push (λ v. Within Γ (v .type)) (Γ .variables) (record { name = x .name; type = S }) h w
@@ -129,7 +126,7 @@ mutual
   block-within {Γ = Γ} H h (bind-has {x = x} {S = S} n k l) = block-within H (scoped-more Γ x S h (right-within H h k)) l
   block-within H h (print-has k l) = block-within H h l
 
-headers-each : {G fs : Script} → TypedHeaders G fs → All TypedHeader fs
+pub headers-each : {G fs : Script} → TypedHeaders G fs → All TypedHeader fs
 headers-each no-headers = tt
 headers-each (more-headers new room h hs) = (h, headers-each hs)
 
@@ -141,17 +138,17 @@ header-scoped : (f : Fun) → TypedHeader f → Scoped (header-scope f)
 header-scoped f h = all-map (λ v. Within (header-scope f) (v .type)) as-variable (f .params) (params-within (h .params-new))
 
 -- a block in its scope: the variables' types hold there, and it has a type
-record Stands (F : Script) (Γ : Scope) (b : Block) : Type 0 where
-  scoped : Scoped Γ
-  type : RegionType
-  typed : TypedBlock F Γ b type
+pub record Stands (F : Script) (Γ : Scope) (b : Block) : Type 0 where
+  pub scoped : Scoped Γ
+  pub type : RegionType
+  pub typed : TypedBlock F Γ b type
 
 let-stands : {F : Script} {Γ : Scope} {x : Ident} {r : Right} {b : Block} {S T : RegionType} → All TypedHeader F → Scoped Γ → TypedBlock F Γ (bind x r b) T → TypedRight F Γ r S → Stands F (with-variable Γ x S) b
 let-stands {F} {Γ} {x} {r} {b} {S} {T} H h (bind-has {S = S′} n k l) t =
     record {
       scoped = scoped-more Γ x S h (right-within H h t);
       type = T;
-      typed = subst (λ U. TypedBlock F (with-variable Γ x U) b T) (types-are-unique F Γ S′ S .1 r k t) l
+      typed = subst (λ U. TypedBlock F (with-variable Γ x U) b T) (types-are-unique F Γ S′ S .1 r k t) l;
     }
 
 print-stands : {F : Script} {Γ : Scope} {p : ℕ} {a : Atom} {b : Block} {T : RegionType} → Scoped Γ → TypedBlock F Γ (print p a b) T → Stands F Γ b
@@ -169,7 +166,7 @@ region-stands {Γ = Γ} {r = r} h (bind-has n (region-has m k l) o) = record { s
 nil-stands : {F : Script} {Γ : Scope} {x : Ident} {p : ℕ} {a : Atom} {b c d : Block} {y z : Ident} {T : RegionType} → Scoped Γ → TypedBlock F Γ (bind x (split p a b y z c) d) T → Stands F Γ b
 nil-stands h (bind-has n (split-has k l m m′ o) q) = record { scoped = h; type = _; typed = l }
 
-parts : {r s : Name} {S T : RegionType} → list r S ≡ list s T → (r ≡ s) × (S ≡ T)
+pub parts : {r s : Name} {S T : RegionType} → list r S ≡ list s T → (r ≡ s) × (S ≡ T)
 parts e = (cc, cc)
 
 cons-stands : {F : Script} {Γ : Scope} {x : Ident} {p : ℕ} {a : Atom} {b c d : Block} {y z : Ident} {r : Name} {S T : RegionType} →
@@ -181,10 +178,10 @@ cons-stands {F} {Γ} {a = a} {c = c} {y = y} {z = z} {r = r} {S = S} h (bind-has
       scoped = scoped-more (with-variable Γ y S) z (list r S) (scoped-more Γ y S h (within-tail Γ r S w)) w;
       type = U;
       typed = subst (λ V. TypedBlock F (with-variable (with-variable Γ y V) z (list r S)) c U) (parts is .1)
-        (subst (λ L. TypedBlock F (with-variable (with-variable Γ y S′) z L) c U) is o)
+          (subst (λ L. TypedBlock F (with-variable (with-variable Γ y S′) z L) c U) is o);
     }
 
-reached-stands : {F : Script} {Γ : Scope} {b : Block} → TypedScript F → Reached F Γ b → Stands F Γ b
+pub reached-stands : {F : Script} {Γ : Scope} {b : Block} → TypedScript F → Reached F Γ b → Stands F Γ b
 reached-stands {F} t (whole-body {f = f} m) =
     record { scoped = header-scoped f (all-has TypedHeader F f (headers-each (t .headers)) m); type = _; typed = all-has (TypedBody F) F f (t .bodies) m }
 reached-stands t (behind-let h k) = let i = reached-stands t h in let-stands (headers-each (t .headers)) (i .scoped) (i .typed) k

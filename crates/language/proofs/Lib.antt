@@ -5,3 +5,4 @@ pub mod WellTyped
 pub mod Unique
 pub mod InScope
 pub mod Exactly
+pub mod Limits

@@ -1,28 +1,26 @@
 -- What passes checking is well typed.
 use mathlib.Core.Path.{_≡_, refl, sym, subst, _∙_}
-use mathlib.Core.Bool.{Bool, true, false, not, _&&_}
+use mathlib.Core.Bool.{Bool, true, false}
 use mathlib.Core.List.{List, [], _∷_, _++_, map}
-use Prim.Native.Nat.{ℕ, suc, _<_, _≤_}
+use Prim.Native.Nat.{ℕ, _<_, _≤_}
 use native.Mathlib.Omega.{arith}
 use lib.Chars.{codes}
 use lib.Dec.{eqb, leb, ltb}
 use lib.ListN.{length}
+use Rattle.std.proofs.shelf.Lists.{length-map}
 use Rattle.std.proofs.shelf.Ways.{tells}
-use Rattle.std.specs.Options.{isSome}
 use Rattle.std.specs.shelf.Lists.{All}
 use Rattle.std.specs.declared.option.Option.{Option}
 use Rattle.std.specs.declared.option.Option.the-variants.{Some, None}
-use Rattle.std.specs.declared.result.Result.{Result}
-use Rattle.std.specs.declared.result.Result.the-variants.{Ok, Err}
+use Rattle.std.specs.declared.result.Result.the-variants.{Ok}
 use Rattle.lexing.specs.Tokens.{same-bytes}
-use Rattle.language.specs.Verdict.{Refused}
 use Rattle.language.specs.Syntax.{Ident, Ty, Atom, var, num, Right, atom, oper, nil, cons, call, test, region, split, Block, last, bind, print, Param, Fun, Script}
-use Rattle.language.specs.Types.{Name, RegionType, int, list, unplaced, same-type, mentions, depth, deepest}
-use Rattle.language.specs.Scope.{most-functions, most-params, most-regions, most-variables, Scope, find-variable, find-region, find-function, with-variable, with-region, region-scope, header-scope, empty-scope}
+use Rattle.language.specs.Types.{Name, RegionType, int, list, unplaced, mentions, depth, deepest}
+use Rattle.language.specs.Scope.{most-functions, most-variables, Scope, find-variable, find-region, find-function, with-variable, with-region, region-scope, header-scope, empty-scope}
 use Rattle.language.specs.Typing.{Known-region, Within, New-region, New-variable, TypedAtom, variable-has, numeral-has, TypedAtoms, no-atoms, more-atoms, at-call, needed, TypedRight, atom-has, oper-has, nil-has, cons-has, call-has, test-has, region-has, split-has, TypedBlock, last-has, bind-has, print-has, New-regions, no-new-regions, more-new-regions, New-params, no-new-params, more-new-params, TypedHeader, TypedHeaders, no-headers, more-headers, TypedBody, Main, TypedScript}
-use Rattle.language.specs.Checking.{_>>=_, _>>_, ask, found, known-region, known-regions, known-type, new-region, new-variable, atom-place, last-place, type-atom, need, need-all, element, type-right, type-block, check-regions, check-params, check-header, check-headers, one-int, main-like, check-main, check-body, check-bodies, checking}
+use Rattle.language.specs.Checking.{known-region, known-regions, known-type, new-region, new-variable, atom-place, type-atom, need, need-all, element, type-right, type-block, check-regions, check-params, check-header, check-headers, one-int, main-like, check-main, check-body, check-bodies, checking}
 use Rattle.language.proofs.Names.{true-false, same-bytes-is, same-type-is}
-use Rattle.language.proofs.Answered.{bound, after, ok-is, asked, found-is, none-is, some-is, not-is, and-is}
+use Rattle.language.proofs.Answered.{bound, after, ok-is, asked, found-is, none-is, not-is, and-is}
 
 below : (m n : ℕ) → ltb m n ≡ true → m < n
 below m n e = grind (arith, tells)
@@ -95,19 +93,15 @@ element-is int p e = cc
 element-is (list r T) p e = cc
 
 pub length-needed : (f : Fun) (rs : List Ident) → length (needed f rs) ≡ length (f .params)
-length-needed f rs = length-map-is (f .params)
-  where
-    length-map-is : (qs : List Param) → length (map (λ q. at-call f rs (q .type)) qs) ≡ length qs
-    length-map-is [] = refl
-    length-map-is (q ∷ qs) = cc (length-map-is qs)
+length-needed f rs = length-map (f .params) (λ q. at-call f rs (q .type))
 
 split-is : {F : Script} {Γ : Scope} {p : ℕ} {a : Atom} {b c : Block} {x y : Ident} (L : RegionType) (r : Name) (R S U T : RegionType) → L ≡ list r R → U ≡ S → S ≡ T →
     TypedAtom Γ a L → TypedBlock F Γ b S → New-variable most-variables Γ x → New-variable most-variables (with-variable Γ x R) y →
     TypedBlock F (with-variable (with-variable Γ x R) y L) c U → TypedRight F Γ (split p a b x y c) T
 split-is {F} {Γ} {p} {a} {b} {c} {x} {y} L r R S U T is same ends h k m n l =
     subst (TypedRight F Γ (split p a b x y c)) ends
-      (split-has (subst (TypedAtom Γ a) is h) k m n
-        (subst (λ K. TypedBlock F (with-variable (with-variable Γ x R) y K) c S) is (subst (TypedBlock F (with-variable (with-variable Γ x R) y L) c) same l)))
+    (split-has (subst (TypedAtom Γ a) is h) k m n
+    (subst (λ K. TypedBlock F (with-variable (with-variable Γ x R) y K) c S) is (subst (TypedBlock F (with-variable (with-variable Γ x R) y L) c) same l)))
 
 mutual
   pub right-is : {F : Script} {Γ : Scope} {T : RegionType} (r : Right) → type-right F Γ r ≡ Ok T → TypedRight F Γ r T
@@ -142,7 +136,7 @@ mutual
       let (U, e₅, e₆) = bound _ _ e₄ in
       let (v, e₇, e₈) = after _ _ e₆ in
       subst (TypedRight F Γ (test p a b c)) (ok-is e₈)
-          (test-has (need-is a e₁) (block-is b e₃) (subst (TypedBlock F Γ c) (same-type-is U S (asked _ _ _ e₇)) (block-is c e₅)))
+      (test-has (need-is a e₁) (block-is b e₃) (subst (TypedBlock F Γ c) (same-type-is U S (asked _ _ _ e₇)) (block-is c e₅)))
   right-is {F} {Γ} (region p r b) e =
       let (u, e₁, e₂) = after _ _ e in
       let (S, e₃, e₄) = bound _ _ e₂ in
@@ -157,7 +151,7 @@ mutual
       let (U, d₁, d₂) = bound _ _ d₀ in
       let (w, d₃, d₄) = after _ _ d₂ in
       split-is L (s .0) (s .1) S U T (element-is L (atom-place a) e₃) (same-type-is U S (asked _ _ _ d₃)) (ok-is d₄)
-        (atom-is a e₁) (block-is b e₅) (new-variable-is e₇) (new-variable-is e₉) (block-is c d₁)
+      (atom-is a e₁) (block-is b e₅) (new-variable-is e₇) (new-variable-is e₉) (block-is c d₁)
 
   pub block-is : {F : Script} {Γ : Scope} {T : RegionType} (b : Block) → type-block F Γ b ≡ Ok T → TypedBlock F Γ b T
   block-is (last a) e = last-has (atom-is a e)
@@ -187,13 +181,15 @@ header-is G f e =
     let (u₂, e₂, r₂) = after _ _ r₁ in
     let (u₃, e₃, r₃) = after (check-regions empty-scope (f .regions)) _ r₂ in
     let (u₄, e₄, r₄) = after (check-params (region-scope f) (f .params)) _ r₃ in
-    let (T, e₅, r₅) = after (known-type (header-scope f) (f .result)) _ r₄ in
-    (none-is _ (asked _ _ _ e₁), below _ _ (asked _ _ _ e₂),
+    let (T, e₅, r₅) = after (known-type (header-scope f) (f .result)) _ r₄ in (
+      none-is _ (asked _ _ _ e₁),
+      below _ _ (asked _ _ _ e₂),
       record {
         regions-new = regions-are empty-scope (f .regions) e₃;
         params-new = params-are (region-scope f) (f .params) e₄;
-        result-within = known-type-is {Γ = header-scope f} (f .result) e₅ .within
-      })
+        result-within = known-type-is {Γ = header-scope f} (f .result) e₅ .within;
+      },
+    )
 
 headers-are : {u : Unit {0}} (G fs : Script) → check-headers G fs ≡ Ok u → TypedHeaders G fs
 headers-are G [] e = no-headers

@@ -1,5 +1,5 @@
 -- An atom, a right side, a block has at most one type: each type is the one that checking computes.
-use mathlib.Core.Path.{_≡_, sym, _∙_}
+use mathlib.Core.Path.{sym, _∙_}
 use Rattle.language.specs.TypingLaws.{Types-are-unique}
 use Rattle.language.proofs.Answered.{ok-is}
 use Rattle.language.proofs.WellTyped.{atom-says, right-says, block-says}

@@ -1,27 +1,22 @@
 -- What is well typed passes checking.
 use mathlib.Core.Path.{_≡_, refl, ap, _∙_}
-use mathlib.Core.Bool.{Bool, true, false, not, _&&_}
-use mathlib.Core.List.{List, [], _∷_, _++_, map}
-use Prim.Native.Nat.{ℕ, suc, _<_, _≤_}
+use mathlib.Core.Bool.{Bool, true, false}
+use mathlib.Core.List.{List, [], _∷_, map}
+use Prim.Native.Nat.{ℕ, _<_, _≤_}
 use native.Mathlib.Omega.{arith}
-use lib.Chars.{codes}
 use lib.Dec.{eqb, leb, ltb}
 use lib.ListN.{length}
 use Rattle.std.proofs.shelf.Ways.{tells}
-use Rattle.std.specs.Options.{isSome}
 use Rattle.std.specs.shelf.Lists.{All}
-use Rattle.std.specs.declared.option.Option.{Option}
-use Rattle.std.specs.declared.option.Option.the-variants.{Some, None}
-use Rattle.std.specs.declared.result.Result.{Result}
-use Rattle.std.specs.declared.result.Result.the-variants.{Ok, Err}
+use Rattle.std.specs.declared.option.Option.the-variants.{None}
+use Rattle.std.specs.declared.result.Result.the-variants.{Ok}
 use Rattle.lexing.specs.Tokens.{same-bytes}
-use Rattle.language.specs.Verdict.{Refused}
-use Rattle.language.specs.Syntax.{Ident, Ty, Atom, var, num, Right, atom, oper, nil, cons, call, test, region, split, Block, last, bind, print, Param, Fun, Script}
-use Rattle.language.specs.Types.{Name, RegionType, int, list, unplaced, same-type, mentions, depth, deepest}
-use Rattle.language.specs.Scope.{most-functions, most-params, most-regions, most-variables, Scope, find-variable, find-region, find-function, with-variable, with-region, region-scope, header-scope, empty-scope}
-use Rattle.language.specs.Typing.{Known-region, Within, New-region, New-variable, TypedAtom, variable-has, numeral-has, TypedAtoms, no-atoms, more-atoms, at-call, needed, TypedRight, atom-has, oper-has, nil-has, cons-has, call-has, test-has, region-has, split-has, TypedBlock, last-has, bind-has, print-has, New-regions, no-new-regions, more-new-regions, New-params, no-new-params, more-new-params, TypedHeader, TypedHeaders, no-headers, more-headers, TypedBody, Main, TypedScript}
-use Rattle.language.specs.Checking.{_>>=_, _>>_, ask, found, known-region, known-regions, known-type, new-region, new-variable, atom-place, last-place, type-atom, need, need-all, element, type-right, type-block, check-regions, check-params, check-header, check-headers, one-int, main-like, check-main, check-body, check-bodies, checking}
-use Rattle.language.proofs.Names.{eqb-refl, same-bytes-refl, same-type-refl}
+use Rattle.language.specs.Syntax.{Ident, Ty, Atom, Right, Block, Param, Fun, Script}
+use Rattle.language.specs.Types.{Name, RegionType, int, list, unplaced, deepest}
+use Rattle.language.specs.Scope.{most-functions, most-params, most-variables, Scope, find-region, find-function, with-variable, header-scope}
+use Rattle.language.specs.Typing.{Known-region, Within, New-region, New-variable, TypedAtom, variable-has, numeral-has, TypedAtoms, no-atoms, more-atoms, TypedRight, atom-has, oper-has, nil-has, cons-has, call-has, test-has, region-has, split-has, TypedBlock, last-has, bind-has, print-has, New-regions, no-new-regions, more-new-regions, New-params, no-new-params, more-new-params, TypedHeader, TypedHeaders, no-headers, more-headers, TypedBody, Main, TypedScript}
+use Rattle.language.specs.Checking.{known-region, known-regions, known-type, new-region, new-variable, atom-place, last-place, type-atom, need, need-all, type-right, type-block, check-regions, check-params, check-header, check-headers, one-int, main-like, check-body, check-bodies, checking}
+use Rattle.language.proofs.Names.{same-bytes-refl, same-type-refl}
 use Rattle.language.proofs.Answered.{bind-says, then-says, ask-says, found-says, none-says, not-says, and-says, some-is}
 use Rattle.language.proofs.Passing.{length-needed}
 
@@ -56,7 +51,7 @@ known-type-says : (Γ : Scope) (t : Ty) → Within Γ (unplaced t) → known-typ
 known-type-says Γ Ty.int w = refl
 known-type-says Γ (Ty.list r t) w =
     then-says (known-says Γ r (w (r .name) (if-true (same-bytes (r .name) (r .name)) _ (same-bytes-refl (r .name)))) .1)
-      (bind-says _ (known-type-says Γ t (λ s m. w s (or-later (same-bytes (r .name) s) _ m))) refl)
+    (bind-says _ (known-type-says Γ t (λ s m. w s (or-later (same-bytes (r .name) s) _ m))) refl)
 
 pub atom-says : {Γ : Scope} {a : Atom} {T : RegionType} → TypedAtom Γ a T → type-atom Γ a ≡ Ok T
 atom-says (variable-has {x = x} {v = v} e is) = bind-says _ (found-says (x .place) e) (cc)
@@ -85,16 +80,16 @@ mutual
   right-says {Γ = Γ} (cons-has {r = r} h k l) = then-says (known-says Γ r h .1) (bind-says _ (atom-says k) (then-says (need-says l) refl))
   right-says {Γ = Γ} (call-has {g = g} {rs = rs} {args = args} {f = f} e l ks hs is) =
       bind-says _ (found-says (g .place) e)
-        (then-says (ask-says _ 16 (g .place) (and-says (eqb-says (length rs) (length (f .regions)) l) (eqb-says (length args) (length (f .params)) (as-many hs ∙ length-needed f rs))))
-          (then-says (knowns-say Γ rs ks) (then-says (needs-say hs) (cc))))
+      (then-says (ask-says _ 16 (g .place) (and-says (eqb-says (length rs) (length (f .regions)) l) (eqb-says (length args) (length (f .params)) (as-many hs ∙ length-needed f rs))))
+      (then-says (knowns-say Γ rs ks) (then-says (needs-say hs) (cc))))
   right-says (test-has {c = c} {T = T} h k l) =
       then-says (need-says h) (bind-says _ (block-says k) (bind-says _ (block-says l) (then-says (ask-says _ 13 (last-place c) (same-type-refl T)) refl)))
   right-says {Γ = Γ} (region-has {r = r} {b = b} n h m) =
       then-says (new-region-says Γ r n) (bind-says _ (block-says h) (then-says (ask-says _ 14 (last-place b) (not-says m)) refl))
   right-says {Γ = Γ} (split-has {c = c} {x = x} {y = y} {S = S} {T = T} h k m n l) =
       bind-says _ (atom-says h) (bind-says _ (block-says k)
-        (then-says (new-variable-says most-variables Γ x m) (then-says (new-variable-says most-variables (with-variable Γ x S) y n)
-          (bind-says _ (block-says l) (then-says (ask-says _ 13 (last-place c) (same-type-refl T)) refl)))))
+      (then-says (new-variable-says most-variables Γ x m) (then-says (new-variable-says most-variables (with-variable Γ x S) y n)
+      (bind-says _ (block-says l) (then-says (ask-says _ 13 (last-place c) (same-type-refl T)) refl)))))
 
   pub block-says : {F : Script} {Γ : Scope} {b : Block} {T : RegionType} → TypedBlock F Γ b T → type-block F Γ b ≡ Ok T
   block-says (last-has h) = atom-says h
@@ -113,8 +108,8 @@ params-say (more-new-params {Γ = Γ} {q = q} h w hs) =
 header-says : (G : Script) (f : Fun) → find-function G (f .name .name) ≡ None → length G < most-functions → TypedHeader f → check-header G f ≡ Ok tt
 header-says G f new room h =
     then-says (ask-says _ 8 (f .name .place) (none-says new)) (then-says (ask-says _ 10 (f .name .place) (below-says _ _ room))
-      (then-says (regions-say (h .regions-new)) (then-says (params-say (h .params-new))
-        (then-says (known-type-says (header-scope f) (f .result) (h .result-within)) refl))))
+    (then-says (regions-say (h .regions-new)) (then-says (params-say (h .params-new))
+    (then-says (known-type-says (header-scope f) (f .result) (h .result-within)) refl))))
 
 headers-say : {G fs : Script} → TypedHeaders G fs → check-headers G fs ≡ Ok tt
 headers-say no-headers = refl
@@ -135,11 +130,11 @@ one-int-says (q ∷ (r ∷ qs)) e = cc
 main-says : (f : Fun) → Main f → main-like f ≡ true
 main-says f m =
     and-says (eqb-says (length (f .regions)) 0 (ap length (m .no-region)))
-      (and-says (one-int-says (f .params) (m .one-int)) (rw (m .gives-int)))
+    (and-says (one-int-says (f .params) (m .one-int)) (rw (m .gives-int)))
 
 -- a script that is well typed passes, whatever the length of its text
 pub typed-passes : (end : ℕ) (F : Script) → TypedScript F → checking end F ≡ Ok F
 typed-passes end F h =
     let (f, e, m) = h .main-is in
     then-says (headers-say (h .headers))
-      (then-says (rw e (ask-says (main-like f) 9 (f .name .place) (main-says f m))) (then-says (bodies-say F F (h .bodies)) refl))
+    (then-says (rw e (ask-says (main-like f) 9 (f .name .place) (main-says f m))) (then-says (bodies-say F F (h .bodies)) refl))

@@ -3,7 +3,7 @@ use mathlib.Core.Bool.{Bool, true, false}
 use mathlib.Core.List.{List, [], _∷_}
 use Prim.Native.Nat.{ℕ, suc}
 use Rattle.lexing.specs.Tokens.{same-bytes}
-use Rattle.language.specs.Syntax.{Ident, Ty}
+use Rattle.language.specs.Syntax.{Ty}
 
 -- a name is its bytes
 abbrev pub Name : Type 0

@@ -1,6 +1,6 @@
 -- The rules of region typing: when an atom, a right side, a block has a type in a scope, and when a script is well typed.
 use mathlib.Core.Path.{_≡_}
-use mathlib.Core.Bool.{Bool, true, false}
+use mathlib.Core.Bool.{true, false}
 use mathlib.Core.List.{List, [], _∷_, _++_, map}
 use Prim.Native.Nat.{ℕ, _<_, _≤_}
 use lib.Chars.{codes}
@@ -8,7 +8,6 @@ use lib.IntN.{ℤ}
 use lib.ListN.{length}
 use Rattle.std.specs.Options.{isSome}
 use Rattle.std.specs.shelf.Lists.{All}
-use Rattle.std.specs.declared.option.Option.{Option}
 use Rattle.std.specs.declared.option.Option.the-variants.{Some, None}
 use Rattle.language.specs.Syntax.{Ident, Ty, Atom, var, num, Op, Right, atom, oper, nil, cons, call, test, region, split, Block, last, bind, print, Param, Fun, Script}
 use Rattle.language.specs.Types.{Name, RegionType, int, list, unplaced, mentions, depth, deepest, replaced}

@@ -1,14 +1,15 @@
 -- What holds of the typing rules and of checking.
 use mathlib.Core.Path.{_≡_}
-use mathlib.Core.List.{List, [], _∷_}
+use mathlib.Core.List.{List, [], _∷_, map}
 use mathlib.Core.Logic.{_↔_}
-use Prim.Native.Nat.{ℕ}
+use Prim.Native.Nat.{ℕ, _≤_}
+use lib.ListN.{length}
 use Rattle.std.specs.shelf.Lists.{All, Has}
-use Rattle.std.specs.declared.result.Result.{Result}
-use Rattle.std.specs.declared.result.Result.the-variants.{Ok, Err}
+use Rattle.std.specs.declared.option.Option.the-variants.{None}
+use Rattle.std.specs.declared.result.Result.the-variants.{Ok}
 use Rattle.language.specs.Syntax.{Ident, Atom, Right, test, region, split, Block, bind, print, Fun, Script}
-use Rattle.language.specs.Types.{Name, RegionType, int, list}
-use Rattle.language.specs.Scope.{Scope, with-variable, with-region, header-scope}
+use Rattle.language.specs.Types.{Name, RegionType, list}
+use Rattle.language.specs.Scope.{find, Scope, with-variable, with-region, header-scope}
 use Rattle.language.specs.Typing.{Within, TypedAtom, TypedRight, TypedBlock, TypedScript}
 use Rattle.language.specs.Checking.{checking}
 
@@ -39,3 +40,16 @@ pub data Reached (F : Script) : Scope → Block → Type 0 where
 abbrev pub Types-stay-in-scope : Type 0
 Types-stay-in-scope = (F : Script) → TypedScript F → (Γ : Scope) (b : Block) → Reached F Γ b →
     All (λ v. Within Γ (v .type)) (Γ .variables) × ((T : RegionType) × TypedBlock F Γ b T × Within Γ T)
+
+-- no two names of a list are the same
+abbrev pub Apart : List Name → Type 0
+Apart [] = Unit {0}
+Apart (n ∷ ns) = (find (λ m. m) n ns ≡ None) × Apart ns
+
+-- a well-typed script has at most 64 functions, no two of one name, of at most 8 parameters each;
+-- wherever the walk comes, at most 8 regions and 32 variables are in scope, no two regions and no two variables of one name
+abbrev pub Scopes-keep-limits : Type 0
+Scopes-keep-limits = (F : Script) → TypedScript F →
+    ((length F ≤ 64) × Apart (map (λ f. f .name .name) F) × All (λ f. length (f .params) ≤ 8) F) ×
+    ((Γ : Scope) (b : Block) → Reached F Γ b →
+    (length (Γ .regions) ≤ 8) × Apart (Γ .regions) × (length (Γ .variables) ≤ 32) × Apart (map (λ v. v .name) (Γ .variables)))

@@ -1,5 +1,5 @@
 // What holds of the typing rules and of checking, each law named by a contract.
-ghost use Rattle.language.specs.TypingLaws.{Passes-exactly-the-typed, Types-are-unique, Types-stay-in-scope};
+ghost use Rattle.language.specs.TypingLaws.{Passes-exactly-the-typed, Types-are-unique, Types-stay-in-scope, Scopes-keep-limits};
 ghost use Rattle.language.specs.CheckingExamples.{Examples-hold};
 
 pub fn passes_exactly_the_typed() -> u8
@@ -22,6 +22,12 @@ pub fn types_stay_in_scope() -> u8
 
 pub fn examples_hold() -> u8
     ensures { λ _. ⌜ Examples-hold ⌝ }
+{
+    0
+}
+
+pub fn scopes_keep_limits() -> u8
+    ensures { λ _. ⌜ Scopes-keep-limits ⌝ }
 {
     0
 }
