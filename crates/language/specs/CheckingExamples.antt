@@ -48,6 +48,42 @@ examples =
     ("fun f[r](l: list@r(int)): int { let k = case l { 0 } else h h { 1 }; k } fun main(n: int): int { n }", refused 12 60) ∷
     -- a type of five lists may be written, and no list of such be made
     ("fun main(n: int): int { let x = region a { let y = nil@a(list@a(list@a(list@a(list@a(list@a(int)))))); n }; x }", refused 15 51) ∷
+    -- question 9 at the name of a main with a region, without a parameter, with two
+    ("fun main[r](n: int): int { n }", refused 9 4) ∷
+    ("fun main(): int { 0 }", refused 9 4) ∷
+    ("fun main(n: int, m: int): int { n }", refused 9 4) ∷
+    -- question 10 comes before question 12 at one name: the ninth parameter, the ninth region, the 33rd variable
+    ("fun f(a: int, b: int, c: int, d: int, e: int, g: int, h: int, i: int, a: int): int { 0 } fun main(n: int): int { n }", refused 10 70) ∷
+    ("fun f[a, b, c, d, e, g, h, i, a](): int { 0 } fun main(n: int): int { n }", refused 10 30) ∷
+    ("fun f[a, b, c, d, e, g, h, i](): int { let x = region a { 0 }; x } fun main(n: int): int { n }", refused 10 54) ∷
+    ("fun main(n: int): int { let v0 = 0; let v1 = 0; let v2 = 0; let v3 = 0; let v4 = 0; let v5 = 0; let v6 = 0; let v7 = 0; let v8 = 0; let v9 = 0; let v10 = 0; let v11 = 0; let v12 = 0; let v13 = 0; let v14 = 0; let v15 = 0; let v16 = 0; let v17 = 0; let v18 = 0; let v19 = 0; let v20 = 0; let v21 = 0; let v22 = 0; let v23 = 0; let v24 = 0; let v25 = 0; let v26 = 0; let v27 = 0; let v28 = 0; let v29 = 0; let v30 = 0; let n = 0; n }", refused 10 421) ∷
+    ("fun main(n: int): int { let v0 = 0; let v1 = 0; let v2 = 0; let v3 = 0; let v4 = 0; let v5 = 0; let v6 = 0; let v7 = 0; let v8 = 0; let v9 = 0; let v10 = 0; let v11 = 0; let v12 = 0; let v13 = 0; let v14 = 0; let v15 = 0; let v16 = 0; let v17 = 0; let v18 = 0; let v19 = 0; let v20 = 0; let v21 = 0; let v22 = 0; let v23 = 0; let v24 = 0; let v25 = 0; let v26 = 0; let v27 = 0; let v28 = 0; let v29 = 0; let v30 = 0; n }", admitted) ∷
+    -- question 11 at a function, a region of a header, of nil behind its own, of cons, of a call
+    ("fun main(n: int): int { let k = call f(n); k }", refused 11 37) ∷
+    ("fun f[r](l: list@r(list@s(int))): int { 0 } fun main(n: int): int { n }", refused 11 24) ∷
+    ("fun main(n: int): int { let x = region a { let e = nil@a(list@b(int)); n }; x }", refused 11 62) ∷
+    ("fun main(n: int): int { let c = cons@a(m, m); n }", refused 11 37) ∷
+    ("fun f[r](): int { 0 } fun main(n: int): int { let k = call f[a](); k }", refused 11 61) ∷
+    -- question 12 at a region that is in scope, and not at one that has gone
+    ("fun main(n: int): int { let x = region a { let y = region a { n }; y }; x }", refused 12 58) ∷
+    ("fun main(n: int): int { let x = region a { n }; let y = region a { n }; y }", admitted) ∷
+    -- question 13 at the operand, the atom printed or tested, the tail, the list taken apart
+    ("fun f[r](l: list@r(int)): int { let x = add l l; x } fun main(n: int): int { n }", refused 13 44) ∷
+    ("fun f[r](l: list@r(int)): int { let x = add 1 l; x } fun main(n: int): int { n }", refused 13 46) ∷
+    ("fun f[r](l: list@r(int)): int { print l; 0 } fun main(n: int): int { n }", refused 13 38) ∷
+    ("fun f[r](l: list@r(int)): int { let x = if l { 1 } else { 2 }; x } fun main(n: int): int { n }", refused 13 43) ∷
+    ("fun f[r, s](l: list@r(int)): int { let c = cons@s(1, l); 0 } fun main(n: int): int { n }", refused 13 53) ∷
+    ("fun main(n: int): int { let x = case n { 0 } else h t { h }; x }", refused 13 37) ∷
+    -- question 13 at the last atom of the second block, and of a function's block
+    ("fun f[r](l: list@r(int)): int { let x = if 1 { 0 } else { print 1; l }; 0 } fun main(n: int): int { n }", refused 13 67) ∷
+    ("fun f[r](l: list@r(int)): int { let x = case l { 0 } else h t { t }; 0 } fun main(n: int): int { n }", refused 13 64) ∷
+    ("fun f[r](l: list@r(int)): int { l } fun main(n: int): int { n }", refused 13 32) ∷
+    -- question 16 for a region too few, and for an atom too many
+    ("fun f[r, s](): int { 0 } fun main(n: int): int { let x = region a { let k = call f[a](); k }; x }", refused 16 81) ∷
+    ("fun main(n: int): int { let k = call main(n, n); k }", refused 16 37) ∷
+    -- the three kinds may share a spelling, and a name is free again behind its block
+    ("fun main(main: int): int { let x = region main { let y = call main(main); y }; x }", admitted) ∷
+    ("fun main(n: int): int { let x = if n { let x = 1; x } else { let x = 2; x }; x }", admitted) ∷
     []
 
 -- each text has its outcome
