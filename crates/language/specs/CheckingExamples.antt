@@ -84,6 +84,13 @@ examples =
     -- the three kinds may share a spelling, and a name is free again behind its block
     ("fun main(main: int): int { let x = region main { let y = call main(main); y }; x }", admitted) ∷
     ("fun main(n: int): int { let x = if n { let x = 1; x } else { let x = 2; x }; x }", admitted) ∷
+    -- of two faults the one further to the left, token by token
+    ("fun f(a: int, a: list@s(int)): int { 0 } fun main(n: int): int { n }", refused 12 14) ∷
+    ("fun f(l: list@s(int)): list@t(int) { l } fun main(n: int): int { n }", refused 11 14) ∷
+    ("fun main(n: int): int { let e = nil@a(list@b(int)); n }", refused 11 36) ∷
+    ("fun f[r](x: int): int { x } fun main(n: int): int { let k = call f[a](m); k }", refused 11 67) ∷
+    ("fun f[r](l: list@r(int)): int { let k = case l { z } else l h { 1 }; k } fun main(n: int): int { n }", refused 11 49) ∷
+    ("fun main(n: int): int { let k = if n { z } else { y }; k }", refused 11 39) ∷
     []
 
 -- each text has its outcome
