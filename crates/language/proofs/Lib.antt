@@ -6,3 +6,4 @@ pub mod Unique
 pub mod InScope
 pub mod Exactly
 pub mod Limits
+pub mod Questions

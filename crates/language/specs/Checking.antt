@@ -17,7 +17,6 @@ use Rattle.language.specs.Scope.{most-functions, most-params, most-regions, mo
 use Rattle.language.specs.Typing.{at-call, needed}
 
 infixr 30 _>>=_ _>>_
-
 -- go on with what was answered, or stay refused
 abbrev pub _>>=_ : {A B : Type 0} → Result A Refused → (A → Result B Refused) → Result B Refused
 (Ok a) >>= k = k a

@@ -17,8 +17,9 @@ pub data Outcome : Type 0 where
 -- the outcome of reading a text and then checking it
 abbrev pub outcome : String → Outcome
 outcome text = elim (reading (codes text)) [
-    Err e ↦ refused (e .number) (e .place)
-  | Ok F ↦ elim (checking (length (codes text)) F) [ Err e ↦ refused (e .number) (e .place) | Ok G ↦ admitted ] ]
+  | Err e ↦ refused (e .number) (e .place)
+  | Ok F ↦ elim (checking (length (codes text)) F) [ Err e ↦ refused (e .number) (e .place) | Ok G ↦ admitted ]
+]
 
 -- texts, each with the outcome that it has
 abbrev pub examples : List (String × Outcome)

@@ -1,12 +1,13 @@
 -- What holds of the typing rules and of checking.
 use mathlib.Core.Path.{_≡_}
 use mathlib.Core.List.{List, [], _∷_, map}
-use mathlib.Core.Logic.{_↔_}
+use mathlib.Core.Logic.{_↔_, _⊎_}
 use Prim.Native.Nat.{ℕ, _≤_}
 use lib.ListN.{length}
 use Rattle.std.specs.shelf.Lists.{All, Has}
 use Rattle.std.specs.declared.option.Option.the-variants.{None}
-use Rattle.std.specs.declared.result.Result.the-variants.{Ok}
+use Rattle.std.specs.declared.result.Result.the-variants.{Ok, Err}
+use Rattle.language.specs.Verdict.{Refused}
 use Rattle.language.specs.Syntax.{Ident, Atom, Right, test, region, split, Block, bind, print, Fun, Script}
 use Rattle.language.specs.Types.{Name, RegionType, list}
 use Rattle.language.specs.Scope.{find, Scope, with-variable, with-region, header-scope}
@@ -16,6 +17,11 @@ use Rattle.language.specs.Checking.{checking}
 -- the rules hold exactly of the scripts that checking passes, and what passes is the script itself
 abbrev pub Passes-exactly-the-typed : Type 0
 Passes-exactly-the-typed = (end : ℕ) (F G : Script) → (checking end F ≡ Ok G) ↔ (TypedScript F × (G ≡ F))
+
+-- every script has an answer: the script itself, or a refusal by one of the questions 8 to 16
+abbrev pub Answers-every-script : Type 0
+Answers-every-script = (end : ℕ) (F : Script) →
+    (checking end F ≡ Ok F) ⊎ ((e : Refused) × (checking end F ≡ Err e) × (8 ≤ e .number) × (e .number ≤ 16))
 
 -- an atom, a right side, a block has at most one type in a scope
 abbrev pub Types-are-unique : Type 0

@@ -1,9 +1,15 @@
 // What holds of the typing rules and of checking, each law named by a contract.
-ghost use Rattle.language.specs.TypingLaws.{Passes-exactly-the-typed, Types-are-unique, Types-stay-in-scope, Scopes-keep-limits};
+ghost use Rattle.language.specs.TypingLaws.{Passes-exactly-the-typed, Answers-every-script, Types-are-unique, Types-stay-in-scope, Scopes-keep-limits};
 ghost use Rattle.language.specs.CheckingExamples.{Examples-hold};
 
 pub fn passes_exactly_the_typed() -> u8
     ensures { λ _. ⌜ Passes-exactly-the-typed ⌝ }
+{
+    0
+}
+
+pub fn answers_every_script() -> u8
+    ensures { λ _. ⌜ Answers-every-script ⌝ }
 {
     0
 }
