@@ -1,4 +1,4 @@
--- The rules of region typing: when an atom, a right side, a block has a type in a scope, and when a script is well typed.
+-- The rules of region typing, after Tofte and Talpin: when an atom, a right side, a block has a type in a scope Γ of a script F, and when F is well typed.
 use mathlib.Core.Path.{_≡_}
 use mathlib.Core.Bool.{true, false}
 use mathlib.Core.List.{List, [], _∷_, _++_, map}
@@ -50,30 +50,40 @@ abbrev pub needed : Fun → List Ident → List RegionType
 needed f rs = map (λ q. at-call f rs (q .type)) (f .params)
 
 mutual
-  -- right sides, by the word that begins them
+  -- a right side has a type
   pub data TypedRight (F : Script) : Scope → Right → RegionType → Type 0 where
+    -- an atom has its own type
     atom-has : {Γ : Scope} {a : Atom} {T : RegionType} → TypedAtom Γ a T → TypedRight F Γ (atom a) T
+    -- the seven operators take two ints and give an int
     oper-has : {Γ : Scope} {p : ℕ} {o : Op} {a b : Atom} → TypedAtom Γ a int → TypedAtom Γ b int → TypedRight F Γ (oper p o a b) int
+    -- nil@r(T) has the type list@r(T), nested at most 5 deep
     nil-has : {Γ : Scope} {p : ℕ} {r : Ident} {t : Ty} →
         Known-region Γ (r .name) → Within Γ (unplaced t) → depth (list (r .name) (unplaced t)) ≤ deepest → TypedRight F Γ (nil p r t) (list (r .name) (unplaced t))
+    -- cons@r(a, b) needs b of type list@r(type of a), and has that type
     cons-has : {Γ : Scope} {p : ℕ} {r : Ident} {a b : Atom} {T : RegionType} →
         Known-region Γ (r .name) → TypedAtom Γ a T → TypedAtom Γ b (list (r .name) T) → TypedRight F Γ (cons p r a b) (list (r .name) T)
+    -- a call hands over as many regions as the function has; each atom has its parameter's type, seen from the call, and the call the result type
     call-has : {Γ : Scope} {p : ℕ} {g : Ident} {rs : List Ident} {args : List Atom} {f : Fun} {T : RegionType} →
         find-function F (g .name) ≡ Some f → length rs ≡ length (f .regions) → All (λ r. Known-region Γ (r .name)) rs → TypedAtoms Γ args (needed f rs) →
         at-call f rs (f .result) ≡ T → TypedRight F Γ (call p g rs args) T
+    -- `if` takes an int, and both blocks have one type
     test-has : {Γ : Scope} {p : ℕ} {a : Atom} {b c : Block} {T : RegionType} → TypedAtom Γ a int → TypedBlock F Γ b T → TypedBlock F Γ c T → TypedRight F Γ (test p a b c) T
+    -- the region is known inside its block, whose type does not mention it
     region-has : {Γ : Scope} {p : ℕ} {r : Ident} {b : Block} {T : RegionType} →
         New-region Γ r → TypedBlock F (with-region Γ r) b T → mentions (r .name) T ≡ false → TypedRight F Γ (region p r b) T
+    -- `case` takes a list@r(S); in its second block the first new name is an S, the second has the list's type; both blocks have one type
     split-has : {Γ : Scope} {p : ℕ} {a : Atom} {b c : Block} {x y : Ident} {r : Name} {S T : RegionType} →
         TypedAtom Γ a (list r S) → TypedBlock F Γ b T →
         New-variable most-variables Γ x → New-variable most-variables (with-variable Γ x S) y → TypedBlock F (with-variable (with-variable Γ x S) y (list r S)) c T →
         TypedRight F Γ (split p a b x y c) T
 
-  -- blocks: items in order, each in the scope that those before it leave, and the last atom
+  -- a block has the type of its last atom
   pub data TypedBlock (F : Script) : Scope → Block → RegionType → Type 0 where
     last-has : {Γ : Scope} {a : Atom} {T : RegionType} → TypedAtom Γ a T → TypedBlock F Γ (last a) T
+    -- a variable is known from behind its item to the end of the block
     bind-has : {Γ : Scope} {x : Ident} {r : Right} {b : Block} {S T : RegionType} →
         New-variable most-variables Γ x → TypedRight F Γ r S → TypedBlock F (with-variable Γ x S) b T → TypedBlock F Γ (bind x r b) T
+    -- `print` takes an int
     print-has : {Γ : Scope} {p : ℕ} {a : Atom} {b : Block} {T : RegionType} → TypedAtom Γ a int → TypedBlock F Γ b T → TypedBlock F Γ (print p a b) T
 
 -- regions that come into scope one after the other
