@@ -1,6 +1,14 @@
 pub mod Syntax
+pub mod Verdict
+pub mod Spelling
+pub mod Nesting
+pub mod Reading
 pub mod Types
 pub mod Scope
+pub mod Typing
+pub mod Checking
+pub mod TypingLaws
+pub mod CheckingExamples
 pub mod Arithmetic
 pub mod Values
 pub mod Questions
