@@ -8,3 +8,7 @@ use Rattle.regions.specs.Model.{Regions}
 abbrev pub split : List ℕ → List ℕ → Regions
 split [] ws = []
 split (l ∷ ls) ws = take l ws ∷ split ls (drop l ws)
+
+-- what an arena holds: its first words, cut by the first lengths of its table
+abbrev pub held : ℕ → List ℕ → List ℕ → Regions
+held count lens ws = split (take count lens) ws

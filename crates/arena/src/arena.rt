@@ -5,7 +5,7 @@ ghost use mathlib.Core.List.{[], _++_};
 ghost use lib.ListN.{length, getD, set, take};
 ghost use Rattle.regions.specs.Model.{region};
 ghost use Rattle.regions.specs.Rules.{total, capacity, arena-rule};
-ghost use Rattle.arena.specs.Layout.{split};
+ghost use Rattle.arena.specs.Layout.{held};
 ghost use Rattle.std.specs.Of.Vec.{vec-items, vec-len};
 use regions::lengths::none_above;
 use regions::refusal::Refusal;
@@ -69,7 +69,7 @@ fn write(words: &mut [u32], from: usize, new: &[u32])
 impl Arena {
     // An arena over this memory, with no region.
     pub fn new(memory: Vec<u32>) -> Arena
-        ensures empty { λ r. ⌜ r .count ≡ 0 ⌝ }
+        ensures empty { λ r. ⌜ held (r .count) (r .lens) (vec-items (r .memory)) ≡ [] ⌝ }
         ensures memory { λ r. ⌜ r .memory ≡ memory ⌝ }
     {
         Arena {
@@ -109,7 +109,7 @@ impl Arena {
         ensures old { λ r. ⌜ r ≡ getD (now (self .entry) .lens) position 0 ⌝ }
         ensures count { λ _. ⌜ now (self .exit) .count ≡ now (self .entry) .count ⌝ }
         ensures len { λ _. ⌜ vec-len (now (self .exit) .memory) ≡ vec-len (now (self .entry) .memory) ⌝ }
-        ensures regions { λ _. ⌜ split (take (now (self .exit) .count) (now (self .exit) .lens)) (vec-items (now (self .exit) .memory)) ≡ set (split (take (now (self .entry) .count) (now (self .entry) .lens)) (vec-items (now (self .entry) .memory))) position (region (split (take (now (self .entry) .count) (now (self .entry) .lens)) (vec-items (now (self .entry) .memory))) position ++ now (new .entry)) ⌝ }
+        ensures regions { λ _. ⌜ held (now (self .exit) .count) (now (self .exit) .lens) (vec-items (now (self .exit) .memory)) ≡ set (held (now (self .entry) .count) (now (self .entry) .lens) (vec-items (now (self .entry) .memory))) position (region (held (now (self .entry) .count) (now (self .entry) .lens) (vec-items (now (self .entry) .memory))) position ++ now (new .entry)) ⌝ }
     {
         let count = self.count;
         let used = self.begin(count);
@@ -124,7 +124,7 @@ impl Arena {
 }
 
 pub impl RegionStore for Arena as ArenaRegionStore {
-    ghost regions = { λ a. split (take (a .count) (a .lens)) (vec-items (a .memory)) };
+    ghost regions = { λ a. held (a .count) (a .lens) (vec-items (a .memory)) };
 
     ghost grants = { λ a. arena-rule (vec-len (a .memory)) };
 
