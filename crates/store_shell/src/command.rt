@@ -1,7 +1,6 @@
 // A line of text as a command.
 use crate::operation::Operation;
 use piles::build::Kind;
-use std::alloc::AllocError;
 use std::alloc::Global;
 
 // What is wrong with a line.
@@ -74,18 +73,29 @@ fn operation(words: &[&str]) -> Result<Operation, Fault> {
 // The quotas behind a store's size.
 fn quotas(heap: Global, words: &[&str]) -> Result<Vec<usize>, Fault> {
     let mut found = Vec::new(heap);
-    let mut at = 0;
-    while at < words.len() {
-        if words[at] != "quota" {
+    for pair in words.chunks(2) {
+        if pair.first() != Some(&"quota") {
             return Err(Fault::NoQuota);
         }
-        let quota = number(words.get(at + 1))?;
-        if found.push(quota).is_err() {
+        if found.push(number(pair.get(1))?).is_err() {
             return Err(Fault::NoMemory);
         }
-        at += 2;
     }
     Ok(found)
+}
+
+// The store that a line's words say.
+fn make(heap: Global, words: &[&str]) -> Result<Command, Fault> {
+    if words.len() < 3 {
+        return Err(Fault::TooFew);
+    }
+    let kind = match words[1] {
+        "arena" => Kind::Words,
+        "pages" => Kind::Pages,
+        _ => return Err(Fault::NoKind),
+    };
+    let size = number(words.get(2))?;
+    Ok(Command::Make(kind, size, quotas(heap, &words[3..])?))
 }
 
 // The command that a line says.
@@ -94,14 +104,9 @@ pub fn parse(heap: Global, line: &str) -> Result<Command, Fault> {
         Ok(words) => words,
         Err(_) => return Err(Fault::NoMemory),
     };
-    if words.first() != Some(&"store") {
-        return Ok(Command::Perform(operation(&words)?));
+    if words.first() == Some(&"store") {
+        make(heap, &words)
+    } else {
+        Ok(Command::Perform(operation(&words)?))
     }
-    let kind = match words.get(1) {
-        Some(&"arena") => Kind::Words,
-        Some(&"pages") => Kind::Pages,
-        _ => return Err(Fault::NoKind),
-    };
-    let size = number(words.get(2))?;
-    Ok(Command::Make(kind, size, quotas(heap, &words[3..])?))
 }
