@@ -4,15 +4,16 @@ use mathlib.Core.Bool.{Bool, true, false}
 use mathlib.Core.List.{List, [], _∷_, _++_, map}
 use Prim.Native.Nat.{ℕ, zero, suc, _+_, _-_, _*_}
 use lib.IntN.{ℤ, pos}
-use lib.ListN.{length, getD, set, take}
+use lib.ListN.{length, take}
 use Rattle.std.specs.declared.option.Option.{Option}
 use Rattle.std.specs.declared.option.Option.the-variants.{Some, None}
+use Rattle.regions.specs.Model.{Rule, longer}
 use Rattle.language.specs.Syntax.{Ident, Ty, int, Atom, num, Op, Right, Block, atom, oper, nil, cons, call, test, region, split, last, bind, print, Param, Fun, Script}
 use Rattle.language.specs.Types.{Name}
 use Rattle.language.specs.Scope.{find, find-function}
 use Rattle.language.specs.Arithmetic.{calculated, has-divisor, same-number}
 use Rattle.language.specs.Values.{Value, number, empty, link, Held, holding, number-of, value-of, values-of, handed}
-use Rattle.language.specs.Questions.{Next, moves, calls, prints, grows, divides, ends, Rule, spent, Stint, Stop, within}
+use Rattle.language.specs.Questions.{Next, moves, calls, prints, grows, divides, ends, spent, Stint, Stop, within}
 
 -- a region name in scope, and the position that it means
 pub record Placed : Type 0 where
@@ -81,7 +82,7 @@ closed α = take (length α - 1) α
 
 -- a cons adds 2 at its region
 abbrev pub lengthened : List ℕ → ℕ → List ℕ
-lengthened α p = set α p (getD α p 0 + 2)
+lengthened α p = longer α p 2
 
 -- the block of an `if`: the first unless the number is 0
 abbrev pub chosen : {A : Type 0} → ℤ → A → A → A

@@ -7,10 +7,11 @@ use lib.IntN.{ℤ}
 use lib.ListN.{length}
 use Rattle.std.specs.declared.option.Option.{Option}
 use Rattle.std.specs.declared.option.Option.the-variants.{Some}
+use Rattle.regions.specs.Model.{Rule, Regions}
 use Rattle.language.specs.Syntax.{Script}
 use Rattle.language.specs.Types.{RegionType}
 use Rattle.language.specs.Values.{Value}
-use Rattle.language.specs.Questions.{Rule, spent, full, exhausted, grows, Stint, Stop, Reaches, Comes-to, begun}
+use Rattle.language.specs.Questions.{spent, full, exhausted, grows, Stint, Stop, Reaches, Comes-to, begun}
 use Rattle.language.specs.Plain.{State, Placed, next, carried, started}
 use Rattle.language.specs.PlainSession.{Session, Run, Answer, resume, answered, stopped, resumed}
 use Rattle.language.specs.Struck.{struck-script}
@@ -87,4 +88,4 @@ pub record Reference-says : Type 0 where
 
 -- From a word, its type and what its region names mean, at most one value is read.
 abbrev pub Reads-once : Type 0
-Reads-once = (rs : List (List ℕ)) (ρ : List Placed) (T : RegionType) (w : ℕ) (v v′ : Value) → Reads rs ρ T w v → Reads rs ρ T w v′ → v ≡ v′
+Reads-once = (rs : Regions) (ρ : List Placed) (T : RegionType) (w : ℕ) (v v′ : Value) → Reads rs ρ T w v → Reads rs ρ T w v′ → v ≡ v′
