@@ -18,3 +18,4 @@ pub mod GoesOn
 pub mod OneAnswer
 pub mod Exhausted
 pub mod References
+pub mod Striking

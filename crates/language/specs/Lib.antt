@@ -15,6 +15,7 @@ pub mod Questions
 pub mod Plain
 pub mod PlainSession
 pub mod Struck
+pub mod Striking
 pub mod StruckRun
 pub mod Reads
 pub mod RunLaws
