@@ -13,6 +13,7 @@ pub mod Arithmetic
 pub mod Values
 pub mod Questions
 pub mod Plain
+pub mod Carried
 pub mod PlainSession
 pub mod Struck
 pub mod Striking

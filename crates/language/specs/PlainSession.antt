@@ -10,7 +10,8 @@ use Rattle.std.specs.declared.option.Option.the-variants.{Some, None}
 use Rattle.regions.specs.Model.{Rule}
 use Rattle.language.specs.Syntax.{Script}
 use Rattle.language.specs.Questions.{Ending, goes-on, Stint, Stop, begun}
-use Rattle.language.specs.Plain.{State, carried, started}
+use Rattle.language.specs.Plain.{State, started}
+use Rattle.language.specs.Carried.{carried}
 
 -- the refusals of the calls
 pub data Refusal : Type 0 where

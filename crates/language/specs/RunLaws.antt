@@ -12,7 +12,8 @@ use Rattle.language.specs.Syntax.{Script}
 use Rattle.language.specs.Types.{RegionType}
 use Rattle.language.specs.Values.{Value}
 use Rattle.language.specs.Questions.{spent, full, exhausted, grows, Stint, Stop, Reaches, Comes-to, begun}
-use Rattle.language.specs.Plain.{State, Placed, next, carried, started}
+use Rattle.language.specs.Plain.{State, Placed, next, started}
+use Rattle.language.specs.Carried.{carried}
 use Rattle.language.specs.PlainSession.{Session, Run, Answer, resume, answered, stopped, resumed}
 use Rattle.language.specs.Spelling.{spell}
 use Rattle.language.specs.Struck.{struck-script}
