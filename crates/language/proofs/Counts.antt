@@ -4,7 +4,8 @@ use mathlib.Core.List.{List}
 use Prim.Native.Nat.{ℕ, suc, _+_}
 use native.Mathlib.Omega.{arith}
 use lib.ListN.{length, length-append}
-use Rattle.language.specs.Questions.{Rule, Ending, spent, full, Next, Stint, Stop, Turn, on, stop, Reaches, already, onward, Comes-to, here, later}
+use Rattle.regions.specs.Model.{Rule}
+use Rattle.language.specs.Questions.{Ending, spent, full, Next, Stint, Stop, Turn, on, stop, Reaches, already, onward, Comes-to, here, later}
 use Rattle.language.specs.RunLaws.{Resume-counts}
 use Rattle.language.proofs.Turns.{on-is, stop-is, not-both, reached, Halts, deep, no-unit, no-entry, denied, by-zero, Outcome, free, paid, put, granted, divided, halts, finishes, outcome}
 

@@ -6,11 +6,13 @@ use Prim.Native.Nat.{ℕ, zero, suc}
 use native.Mathlib.Omega.{arith}
 use lib.Dec.{ltb}
 use lib.IntN.{ℤ, pos}
+use Rattle.regions.specs.Model.{Rule}
 use Rattle.language.specs.Syntax.{Ident, Op, add, sub, mul, div, rem, eq, lt, Right, Block, atom, oper, nil, cons, call, test, region, split, last, bind, print, Script}
 use Rattle.language.specs.Arithmetic.{same-number}
 use Rattle.language.specs.Values.{Value, Held, value-of}
-use Rattle.language.specs.Questions.{Rule, Ending, spent, full, too-deep, exhausted, zero-divisor, Next, moves, calls, prints, grows, divides, ends, Stint, Stop, Turn, on, stop, halt, asked, charged, filled, moved, turn, Reaches, already, onward, Comes-to, here, later}
-use Rattle.language.specs.Plain.{Placed, Frame, inner, closing, returning, State, after-block, at-right, at-block, next, carried}
+use Rattle.language.specs.Questions.{Ending, spent, full, too-deep, exhausted, zero-divisor, Next, moves, calls, prints, grows, divides, ends, Stint, Stop, Turn, on, stop, halt, asked, charged, filled, moved, turn, Reaches, already, onward, Comes-to, here, later}
+use Rattle.language.specs.Plain.{Placed, Frame, inner, closing, returning, State, after-block, at-right, at-block, next}
+use Rattle.language.specs.Carried.{carried}
 use Rattle.language.specs.RunLaws.{Denial, Exhausted-exactly}
 use Rattle.language.proofs.Turns.{stop-is, not-both, one-stop, reached, last-turn, reaches-comes, Halts, deep, no-unit, no-entry, denied, by-zero, Outcome, free, paid, put, granted, divided, halts, finishes, outcome}
 use Rattle.language.proofs.OneStop.{comes}

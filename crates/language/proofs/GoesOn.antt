@@ -8,8 +8,9 @@ use native.Mathlib.Omega.{arith}
 use lib.Dec.{ltb}
 use lib.IntN.{ℤ, pos}
 use Rattle.std.proofs.shelf.Lists.{append-assoc, append-nil}
+use Rattle.regions.specs.Model.{Rule}
 use Rattle.language.specs.Arithmetic.{same-number}
-use Rattle.language.specs.Questions.{Rule, Ending, too-deep, exhausted, zero-divisor, Next, moves, calls, prints, grows, divides, ends, Stint, Stop, Turn, on, stop, halt, asked, charged, filled, moved, turn, Reaches, already, onward, Comes-to, here, later, begun}
+use Rattle.language.specs.Questions.{Ending, too-deep, exhausted, zero-divisor, Next, moves, calls, prints, grows, divides, ends, Stint, Stop, Turn, on, stop, halt, asked, charged, filled, moved, turn, Reaches, already, onward, Comes-to, here, later, begun}
 use Rattle.language.specs.Plain.{State, next}
 use Rattle.language.specs.RunLaws.{Goes-on, joined}
 use Rattle.language.proofs.Turns.{on-is, stop-is, not-both, reached, reaches-comes, Outcome, free, paid, put, granted, divided, halts, finishes, outcome}

@@ -1,3 +1,12 @@
+pub mod Names
+pub mod Answered
+pub mod Passing
+pub mod WellTyped
+pub mod Unique
+pub mod InScope
+pub mod Exactly
+pub mod Limits
+pub mod Questions
 pub mod RunExamples
 pub mod ReadsOnce
 pub mod Falls
@@ -9,3 +18,4 @@ pub mod GoesOn
 pub mod OneAnswer
 pub mod Exhausted
 pub mod References
+pub mod Striking

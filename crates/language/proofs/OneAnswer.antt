@@ -9,8 +9,10 @@ use lib.IntN.{ℤ}
 use Rattle.std.proofs.shelf.Ways.{tells}
 use Rattle.std.specs.declared.option.Option.{Option}
 use Rattle.std.specs.declared.option.Option.the-variants.{Some, None}
-use Rattle.language.specs.Questions.{Rule, Stint, Stop, Comes-to}
-use Rattle.language.specs.Plain.{State, next, carried}
+use Rattle.regions.specs.Model.{Rule}
+use Rattle.language.specs.Questions.{Stint, Stop, Comes-to}
+use Rattle.language.specs.Plain.{State, next}
+use Rattle.language.specs.Carried.{carried}
 use Rattle.language.specs.PlainSession.{Session, Run, Answer, resume, answered, stopped, resumed, resume-call}
 use Rattle.language.specs.RunLaws.{One-answer}
 use Rattle.language.proofs.Turns.{one-stop}

@@ -6,8 +6,10 @@ use native.Mathlib.Omega.{arith}
 use native.Mathlib.Nat.{suc-mul}
 use Rattle.std.specs.declared.option.Option.{Option}
 use Rattle.std.specs.declared.option.Option.the-variants.{Some, None}
-use Rattle.language.specs.Questions.{Rule, Next, Stint, Stop, Turn, on, stop, moved, turn, Comes-to, here, later, within}
-use Rattle.language.specs.Plain.{State, next, script-size, enough, carried}
+use Rattle.regions.specs.Model.{Rule}
+use Rattle.language.specs.Questions.{Next, Stint, Stop, Turn, on, stop, moved, turn, Comes-to, here, later, within}
+use Rattle.language.specs.Plain.{State, next}
+use Rattle.language.specs.Carried.{script-size, enough, carried}
 use Rattle.language.specs.RunLaws.{One-stop}
 use Rattle.language.proofs.Turns.{on-is, not-both, one-stop, Outcome, free, paid, put, granted, divided, halts, finishes, outcome}
 use Rattle.language.proofs.Falls.{rest, Less, Fall, falls}

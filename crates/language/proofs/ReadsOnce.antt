@@ -5,12 +5,13 @@ use Prim.Native.Nat.{ℕ, _<_}
 use native.Mathlib.Omega.{arith}
 use Rattle.std.specs.declared.option.Option.{Option}
 use Rattle.std.specs.declared.option.Option.the-variants.{Some, None}
+use Rattle.regions.specs.Model.{Regions}
 use Rattle.language.specs.Types.{RegionType, int, list}
 use Rattle.language.specs.Values.{Value, number, empty, link}
 use Rattle.language.specs.Plain.{Placed}
-use Rattle.language.specs.Reads.{Reads, reads-number, reads-empty, reads-link, word-at}
+use Rattle.language.specs.Reads.{Reads, reads-number, reads-empty, reads-link}
 
-module _ {rs : List (List ℕ)} {ρ : List Placed} where
+module _ {rs : Regions} {ρ : List Placed} where
   -- at words that are equal, so that heads and tails fetched twice can be compared
   once : {T : RegionType} {w w′ : ℕ} {v v′ : Value} → w ≡ w′ → Reads rs ρ T w v → Reads rs ρ T w′ v′ → v ≡ v′
   once e (reads-number p) (reads-number q) = cc

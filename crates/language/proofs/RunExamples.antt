@@ -15,13 +15,15 @@ worked = record {
   deep-too-deep = refl;
   handed-over = refl;
   one-by-one = refl;
-  none-granted = refl;
+  not-even-one = refl;
   cut-ends = refl;
   cut-by-zero = refl;
   quotient-corner = refl;
   remainder-corner = refl;
   refusals = refl;
   too-many = refl;
+  region-escapes = refl;
+  no-text = refl;
   list-read =
       reads-link 3 (reference 1 0) (omega arith) refl refl refl (reads-number refl)
       (reads-link 4 0 (omega arith) refl refl refl (reads-number refl) (reads-empty refl));

@@ -6,8 +6,9 @@ use Prim.Native.Nat.{ℕ, zero, suc}
 use native.Mathlib.Omega.{arith}
 use lib.Dec.{ltb}
 use lib.IntN.{ℤ, pos}
+use Rattle.regions.specs.Model.{Rule}
 use Rattle.language.specs.Arithmetic.{same-number}
-use Rattle.language.specs.Questions.{Rule, Ending, finished, spent, full, exhausted, too-deep, zero-divisor, Next, moves, calls, prints, grows, divides, ends, Stint, Stop, Turn, on, stop, halt, asked, charged, filled, moved, turn, Reaches, already, onward, Comes-to, here, later}
+use Rattle.language.specs.Questions.{Ending, finished, spent, full, exhausted, too-deep, zero-divisor, Next, moves, calls, prints, grows, divides, ends, Stint, Stop, Turn, on, stop, halt, asked, charged, filled, moved, turn, Reaches, already, onward, Comes-to, here, later}
 
 module _ {S : Type 0} where
   pub on-is : {t u : Stint S} → on t ≡ on u → t ≡ u

@@ -2,17 +2,19 @@
 -- It is told of checked scripts. So that it is total, a function or a region out of scope has a fixed meaning here too; no checked script has one.
 use mathlib.Core.Bool.{Bool, true, false}
 use mathlib.Core.List.{List, [], _∷_, _++_, map}
-use Prim.Native.Nat.{ℕ, zero, suc, _+_, _-_, _*_}
+use Prim.Native.Nat.{ℕ, suc, _-_}
+use lib.Chars.{codes}
 use lib.IntN.{ℤ, pos}
-use lib.ListN.{length, getD, set, take}
+use lib.ListN.{length, take}
 use Rattle.std.specs.declared.option.Option.{Option}
 use Rattle.std.specs.declared.option.Option.the-variants.{Some, None}
+use Rattle.regions.specs.Model.{longer}
 use Rattle.language.specs.Syntax.{Ident, Ty, int, Atom, num, Op, Right, Block, atom, oper, nil, cons, call, test, region, split, last, bind, print, Param, Fun, Script}
 use Rattle.language.specs.Types.{Name}
 use Rattle.language.specs.Scope.{find, find-function}
 use Rattle.language.specs.Arithmetic.{calculated, has-divisor, same-number}
 use Rattle.language.specs.Values.{Value, number, empty, link, Held, holding, number-of, value-of, values-of, handed}
-use Rattle.language.specs.Questions.{Next, moves, calls, prints, grows, divides, ends, Rule, spent, Stint, Stop, within}
+use Rattle.language.specs.Questions.{Next, moves, calls, prints, grows, divides, ends}
 
 -- a region name in scope, and the position that it means
 pub record Placed : Type 0 where
@@ -64,6 +66,10 @@ function-of F f = elim (find-function F (f .name)) [ Some g ↦ g | None ↦ no-
 abbrev pub param-names : List Param → List Ident
 param-names qs = map (λ q. q .name) qs
 
+-- a function entered with values for its parameters and positions for its regions
+abbrev pub entered : Script → Fun → List Value → List ℕ → List Frame → List ℕ → State
+entered F g vs ps K α = state F (g .body) (handed (param-names (g .params)) vs) (placed (g .regions) ps) K α
+
 -- the calls that are unfinished, `main` counted
 abbrev pub unfinished : List Frame → ℕ
 unfinished [] = 1
@@ -81,7 +87,7 @@ closed α = take (length α - 1) α
 
 -- a cons adds 2 at its region
 abbrev pub lengthened : List ℕ → ℕ → List ℕ
-lengthened α p = set α p (getD α p 0 + 2)
+lengthened α p = longer α p 2
 
 -- the block of an `if`: the first unless the number is 0
 abbrev pub chosen : {A : Type 0} → ℤ → A → A → A
@@ -113,9 +119,7 @@ at-right F x (nil p r T) b E ρ K α = moves (state F b (holding E x empty) ρ K
 at-right F x (cons p r a c) b E ρ K α =
     grows p (lengthened α (position-of ρ r)) (state F b (holding E x (link (value-of E a) (value-of E c))) ρ K (lengthened α (position-of ρ r)))
 at-right F x (call p f rs xs) b E ρ K α =
-    calls p (unfinished K)
-    (state F (function-of F f .body) (handed (param-names (function-of F f .params)) (values-of E xs)) (placed (function-of F f .regions) (map (position-of ρ) rs))
-    (returning x b E ρ ∷ K) α)
+    calls p (unfinished K) (entered F (function-of F f) (values-of E xs) (map (position-of ρ) rs) (returning x b E ρ ∷ K) α)
 at-right F x (test p a c d) b E ρ K α = moves (state F (chosen (number-of (value-of E a)) c d) E ρ (inner x b E ρ ∷ K) α)
 at-right F x (region p r c) b E ρ K α =
     grows p (opened α) (state F c E (ρ ++ (record { name = r .name; position = length α } ∷ [])) (closing x b E ρ ∷ K) (opened α))
@@ -131,46 +135,9 @@ at-block F (print p a b) E ρ K α = prints p (number-of (value-of E a)) (state 
 abbrev pub next : State → Next State
 next s = at-block (s .script) (s .block) (s .variables) (s .regions) (s .frames) (s .account)
 
--- how many words a block has, each right side and each last atom counted
-abbrev mutual
-  pub block-size : Block → ℕ
-  block-size (last a) = 1
-  block-size (bind x r b) = suc (right-size r + block-size b)
-  block-size (print p a b) = suc (block-size b)
-
-  pub right-size : Right → ℕ
-  right-size (atom a) = 0
-  right-size (oper p o a b) = 0
-  right-size (nil p r T) = 0
-  right-size (cons p r a b) = 0
-  right-size (call p f rs xs) = 0
-  right-size (test p a b c) = block-size b + block-size c
-  right-size (region p r b) = block-size b
-  right-size (split p a b h t c) = block-size b + block-size c
-
--- how many words wait in the frames
-abbrev pub frames-size : List Frame → ℕ
-frames-size [] = 0
-frames-size (inner x b E ρ ∷ K) = block-size b + frames-size K
-frames-size (closing x b E ρ ∷ K) = block-size b + frames-size K
-frames-size (returning x b E ρ ∷ K) = block-size b + frames-size K
-
--- as many words as all functions have together, one more for a function that is not there
-abbrev pub script-size : Script → ℕ
-script-size [] = 1
-script-size (g ∷ F) = block-size (g .body) + script-size F
-
--- as many words as a stint can take: what is left, and what each call that a unit pays for can add
-abbrev pub enough : Stint State → ℕ
-enough t = suc (block-size (t .run .block) + frames-size (t .run .frames) + t .units * script-size (t .run .script))
-
--- what a stint comes to; that many words always suffice, so that the second case never comes
-abbrev pub carried : Rule → Stint State → Stop State
-carried grants t = elim (within next grants (enough t) t) [ Some e ↦ e | None ↦ record { ending = spent; result = pos 0; place = 0; stint = t } ]
-
 -- `main` on a number
 abbrev pub main : Ident
-main = record { place = 0; name = 109 ∷ 97 ∷ 105 ∷ 110 ∷ [] }
+main = record { place = 0; name = codes "main" }
 
 abbrev pub started : Script → ℤ → State
-started F n = let f = function-of F main in state F (f .body) (handed (param-names (f .params)) (number n ∷ [])) [] [] []
+started F n = entered F (function-of F main) (number n ∷ []) [] [] []

@@ -7,9 +7,11 @@ use lib.IntN.{ℤ}
 use lib.ListN.{length, drop}
 use Rattle.std.specs.declared.option.Option.{Option}
 use Rattle.std.specs.declared.option.Option.the-variants.{Some, None}
+use Rattle.regions.specs.Model.{Rule}
 use Rattle.language.specs.Syntax.{Script}
-use Rattle.language.specs.Questions.{Rule, Ending, goes-on, Stint, Stop, begun}
-use Rattle.language.specs.Plain.{State, carried, started}
+use Rattle.language.specs.Questions.{Ending, goes-on, Stint, Stop, begun}
+use Rattle.language.specs.Plain.{State, started}
+use Rattle.language.specs.Carried.{carried}
 
 -- the refusals of the calls
 pub data Refusal : Type 0 where

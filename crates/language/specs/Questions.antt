@@ -7,11 +7,8 @@ use lib.Dec.{ltb}
 use lib.IntN.{ℤ, pos}
 use Rattle.std.specs.declared.option.Option.{Option}
 use Rattle.std.specs.declared.option.Option.the-variants.{Some, None}
+use Rattle.regions.specs.Model.{Rule}
 use Rattle.language.specs.Arithmetic.{same-number}
-
--- a rule takes a list of region lengths and grants or denies it
-abbrev pub Rule : Type 0
-Rule = List ℕ → Bool
 
 -- how a resume ends
 pub data Ending : Type 0 where

@@ -7,13 +7,17 @@ use lib.IntN.{ℤ}
 use lib.ListN.{length}
 use Rattle.std.specs.declared.option.Option.{Option}
 use Rattle.std.specs.declared.option.Option.the-variants.{Some}
+use Rattle.regions.specs.Model.{Rule, Regions}
 use Rattle.language.specs.Syntax.{Script}
 use Rattle.language.specs.Types.{RegionType}
 use Rattle.language.specs.Values.{Value}
-use Rattle.language.specs.Questions.{Rule, spent, full, exhausted, grows, Stint, Stop, Reaches, Comes-to, begun}
-use Rattle.language.specs.Plain.{State, Placed, next, carried, started}
+use Rattle.language.specs.Questions.{spent, full, exhausted, grows, Stint, Stop, Reaches, Comes-to, begun}
+use Rattle.language.specs.Plain.{State, Placed, next, started}
+use Rattle.language.specs.Carried.{carried}
 use Rattle.language.specs.PlainSession.{Session, Run, Answer, resume, answered, stopped, resumed}
+use Rattle.language.specs.Spelling.{spell}
 use Rattle.language.specs.Struck.{struck-script}
+use Rattle.language.specs.Striking.{struck-tokens, bare-spell}
 use Rattle.language.specs.StruckRun.{bare-next, bare-started, struck-state, struck-stint, struck-stop}
 use Rattle.language.specs.Reads.{Reads, reference, region-of, place-of}
 
@@ -25,6 +29,10 @@ One-stop = (grants : Rule) (t : Stint State) → Comes-to next grants t (carried
 abbrev pub One-answer : Type 0
 One-answer = (grants : Rule) (units : ℕ) (entries : List ℤ) (s : Session) (c : Run) (e : Stop State) → s .run ≡ Some c → c .used + units ≤ 4294967295 →
     Comes-to next grants (resumed c units entries) e → answered grants (resume units entries) s ≡ stopped e c entries s
+
+-- Striking out the region words in the tokens of a script leaves the tokens of the struck-out script, each at its place.
+abbrev pub Struck-spelling : Type 0
+Struck-spelling = (F : Script) → struck-tokens (spell F) ≡ bare-spell (struck-script F)
 
 -- Striking out, as long as nothing is denied: whatever a stint reaches, the script without region words reaches too, over whatever rule, with the same
 -- values, numbers printed and units used; and it comes to the same stop, unless the rule has denied the account.
@@ -87,4 +95,4 @@ pub record Reference-says : Type 0 where
 
 -- From a word, its type and what its region names mean, at most one value is read.
 abbrev pub Reads-once : Type 0
-Reads-once = (rs : List (List ℕ)) (ρ : List Placed) (T : RegionType) (w : ℕ) (v v′ : Value) → Reads rs ρ T w v → Reads rs ρ T w v′ → v ≡ v′
+Reads-once = (rs : Regions) (ρ : List Placed) (T : RegionType) (w : ℕ) (v v′ : Value) → Reads rs ρ T w v → Reads rs ρ T w v′ → v ≡ v′

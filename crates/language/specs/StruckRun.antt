@@ -37,6 +37,10 @@ bare-function-of F f = elim (find (λ g. g .name .name) (f .name) F) [ Some g �
 abbrev pub bare-param-names : List Bare-param → List Ident
 bare-param-names qs = map (λ q. q .name) qs
 
+-- a function entered with values for its parameters
+abbrev pub bare-entered : Bare-script → Bare-fun → List Value → List Bare-frame → Bare-state
+bare-entered F g vs K = bare F (g .body) (handed (bare-param-names (g .params)) vs) K
+
 -- the calls that are unfinished, `main` counted
 abbrev pub bare-unfinished : List Bare-frame → ℕ
 bare-unfinished [] = 1
@@ -64,7 +68,7 @@ bare-right F x (oper p o a c) b E K =
 bare-right F x (nil p T) b E K = moves (bare F b (holding E x empty) K)
 bare-right F x (cons p a c) b E K = moves (bare F b (holding E x (link (value-of E a) (value-of E c))) K)
 bare-right F x (call p f xs) b E K =
-    calls p (bare-unfinished K) (bare F (bare-function-of F f .body) (handed (bare-param-names (bare-function-of F f .params)) (values-of E xs)) (caller x b E ∷ K))
+    calls p (bare-unfinished K) (bare-entered F (bare-function-of F f) (values-of E xs) (caller x b E ∷ K))
 bare-right F x (test p a c d) b E K = moves (bare F (chosen (number-of (value-of E a)) c d) E (inside x b E ∷ K))
 bare-right F x (block c) b E K = moves (bare F c E (inside x b E ∷ K))
 bare-right F x (split p a c h t d) b E K = moves (bare-split F (value-of E a) c h t d E (inside x b E ∷ K))
@@ -80,7 +84,7 @@ bare-next s = bare-block (s .script) (s .left) (s .variables) (s .frames)
 
 -- `main` on a number
 abbrev pub bare-started : Bare-script → ℤ → Bare-state
-bare-started F n = let f = bare-function-of F main in bare F (f .body) (handed (bare-param-names (f .params)) (number n ∷ [])) []
+bare-started F n = bare-entered F (bare-function-of F main) (number n ∷ []) []
 
 -- what is left of a plain run without its regions and its account: a frame behind a region's block waits as any block does
 abbrev pub struck-frame : Frame → Bare-frame

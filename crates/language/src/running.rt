@@ -1,5 +1,5 @@
 // What holds of the plain run, of striking out and of reading lists, each law named by the contract of a function.
-ghost use Rattle.language.specs.RunLaws.{One-stop, One-answer, Resume-counts, Goes-on, Exhausted-exactly, Struck-alike, Reads-once, Reference-says};
+ghost use Rattle.language.specs.RunLaws.{One-stop, One-answer, Resume-counts, Goes-on, Exhausted-exactly, Struck-spelling, Struck-alike, Reads-once, Reference-says};
 ghost use Rattle.language.specs.RunExamples.{Worked};
 
 // every resume comes to exactly one stop, and its words never run out
@@ -33,6 +33,13 @@ pub fn goes_on() -> u8
 // a resume answers exhausted exactly when its run comes to a word after which the rule denies the account
 pub fn exhausted_exactly() -> u8
     ensures { λ _. ⌜ Exhausted-exactly ⌝ }
+{
+    0
+}
+
+// the struck-out script is spelled by the tokens that striking out leaves
+pub fn struck_spelling() -> u8
+    ensures { λ _. ⌜ Struck-spelling ⌝ }
 {
     0
 }

@@ -1,0 +1,5 @@
+use Rattle.language.proofs.running.struck_spelling.Needs as need
+use Rattle.language.proofs.Striking.{proof}
+
+pub returns : need.returns
+returns c = proof

@@ -1,0 +1,5 @@
+use Rattle.language.proofs.typing.answers_every_script.Needs as need
+use Rattle.language.proofs.Questions.{answers-every-script}
+
+pub returns : need.returns
+returns c = answers-every-script

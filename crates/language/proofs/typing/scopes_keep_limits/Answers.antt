@@ -1,0 +1,5 @@
+use Rattle.language.proofs.typing.scopes_keep_limits.Needs as need
+use Rattle.language.proofs.Limits.{scopes-keep-limits}
+
+pub returns : need.returns
+returns c = scopes-keep-limits

@@ -1,0 +1,5 @@
+use Rattle.regions.proofs.Lawfuls.{pages-lawful}
+use Rattle.pages.proofs.pages.PagesRegionStore.the-impl.Needs as need
+
+pub lawful-law : need.lawful-law
+lawful-law s = pages-lawful (s .most)

@@ -1,0 +1,22 @@
+-- A store of either kind, and one under quotas, has a lawful rule. Assumes nothing.
+use lib.ListN.{length}
+use Rattle.regions.specs.Laws.{Lawful}
+use Rattle.regions.specs.Rules.{quota-rule}
+use Rattle.regions.proofs.Lawfuls.{arena-lawful, pages-lawful, quota-lawful}
+use Rattle.piles.specs.declared.ground.Ground.{Ground}
+use Rattle.piles.specs.declared.ground.Ground.the-variants.{Stretch, Paged}
+use Rattle.piles.specs.declared.pile.Pile.{Pile}
+use Rattle.piles.specs.declared.pile.Pile.the-variants.{Bare, Once, Twice}
+use Rattle.piles.specs.Ground.{ground-rule}
+use Rattle.piles.specs.Pile.{pile-rule}
+
+pub ground-lawful : (s : Ground) → Lawful (ground-rule s)
+ground-lawful (Stretch a) = arena-lawful (a .memory .len)
+ground-lawful (Paged p) = pages-lawful (p .most)
+
+pub pile-lawful : (s : Pile) → Lawful (pile-rule s)
+pile-lawful (Bare s) = ground-lawful s
+pile-lawful (Once q) = quota-lawful (q .quota) (ground-rule (q .store)) (ground-lawful (q .store))
+pile-lawful (Twice q) =
+    quota-lawful (q .quota) (quota-rule (q .store .quota) (ground-rule (q .store .store)))
+    (quota-lawful (q .store .quota) (ground-rule (q .store .store)) (ground-lawful (q .store .store)))

@@ -1,0 +1,5 @@
+use Rattle.piles.proofs.Lawfuls.{ground-lawful}
+use Rattle.piles.proofs.ground.GroundRegionStore.the-impl.Needs as need
+
+pub lawful-law : need.lawful-law
+lawful-law = ground-lawful

@@ -1,0 +1,3 @@
+pub mod Ground
+pub mod Pile
+pub mod Build

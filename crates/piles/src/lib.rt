@@ -1,0 +1,3 @@
+pub mod ground;
+pub mod pile;
+pub mod build;

@@ -1,0 +1,5 @@
+pub mod Bounds
+pub mod Lawfuls
+pub mod Answered
+pub mod Quotas
+pub mod Tables

@@ -1,0 +1,3 @@
+pub mod operation;
+mod command;
+pub mod shell;
