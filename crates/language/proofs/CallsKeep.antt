@@ -1,18 +1,17 @@
 -- A refusal changes no session, and a resume keeps the length of its list.
-use mathlib.Core.Path.{_≡_, refl, sym, ap, _∙_, subst}
+use mathlib.Core.Path.{_≡_, refl, sym, ap, _∙_}
 use mathlib.Core.Bool.{Bool, true, false}
-use mathlib.Core.List.{List, [], _∷_, _++_}
+use mathlib.Core.List.{List}
 use Prim.Native.Nat.{ℕ, _+_, _-_}
 use native.Mathlib.Omega.{arith}
 use lib.Dec.{leb}
 use lib.IntN.{ℤ}
-use lib.ListN.{length, drop, length-append, length-drop}
+use lib.ListN.{length, length-append, length-drop}
 use Rattle.std.specs.declared.option.Option.{Option}
 use Rattle.std.specs.declared.option.Option.the-variants.{Some, None}
 use Rattle.regions.specs.Model.{Rule}
 use Rattle.language.specs.Syntax.{Script}
-use Rattle.language.specs.Questions.{Stop}
-use Rattle.language.specs.Plain.{State, started}
+use Rattle.language.specs.Plain.{started}
 use Rattle.language.specs.Carried.{carried}
 use Rattle.language.specs.PlainSession.{Session, Run, Refusal, under-way, not-loaded, not-under-way, too-many-units, Call, load, start, resume, stop, Answer, done, Told, told, refused, written, refusing, answered, stopped, resumed}
 use Rattle.language.specs.RunLaws.{Calls-keep}
