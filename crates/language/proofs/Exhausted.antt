@@ -1,16 +1,13 @@
 -- A resume answers exhausted exactly when its run comes to a word that the rule denies.
 use mathlib.Core.Path.{_≡_, refl, sym, ap, _∙_, subst}
-use mathlib.Core.Bool.{Bool, true, false}
-use mathlib.Core.List.{List, [], _∷_, _++_}
-use Prim.Native.Nat.{ℕ, zero, suc}
+use mathlib.Core.Bool.{false}
+use mathlib.Core.List.{List, [], _∷_}
+use Prim.Native.Nat.{ℕ}
 use native.Mathlib.Omega.{arith}
-use lib.Dec.{ltb}
-use lib.IntN.{ℤ, pos}
 use Rattle.regions.specs.Model.{Rule}
-use Rattle.language.specs.Syntax.{Ident, Op, add, sub, mul, div, rem, eq, lt, Right, Block, atom, oper, nil, cons, call, test, region, split, last, bind, print, Script}
-use Rattle.language.specs.Arithmetic.{same-number}
+use Rattle.language.specs.Syntax.{Ident, add, sub, mul, div, rem, eq, lt, Right, Block, atom, oper, nil, cons, call, test, region, split, last, bind, print, Script}
 use Rattle.language.specs.Values.{Value, Held, value-of}
-use Rattle.language.specs.Questions.{Ending, spent, full, too-deep, exhausted, zero-divisor, Next, moves, calls, prints, grows, divides, ends, Stint, Stop, Turn, on, stop, halt, asked, charged, filled, moved, turn, Reaches, already, onward, Comes-to, here, later}
+use Rattle.language.specs.Questions.{Ending, exhausted, Next, moves, calls, prints, grows, divides, ends, Stint, Stop, Turn, stop, halt, asked, turn, here}
 use Rattle.language.specs.Plain.{Placed, Frame, inner, closing, returning, State, after-block, at-right, at-block, next}
 use Rattle.language.specs.Carried.{carried}
 use Rattle.language.specs.RunLaws.{Denial, Exhausted-exactly}

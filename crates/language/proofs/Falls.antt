@@ -1,24 +1,17 @@
 -- What is left to do falls with each word but `call`, and a call adds no more than its script has words.
-use mathlib.Core.Path.{_≡_, refl, sym, ap, _∙_, subst}
+use mathlib.Core.Path.{_≡_, refl, sym}
 use mathlib.Core.Bool.{Bool, true, false}
-use mathlib.Core.List.{List, [], _∷_, _++_, map}
-use Prim.Native.Nat.{ℕ, zero, suc, _+_, _*_, _≤_, _<_}
+use mathlib.Core.List.{List, [], _∷_}
+use Prim.Native.Nat.{ℕ, _+_, _≤_, _<_}
 use native.Mathlib.Omega.{arith}
-use native.Mathlib.Nat.{suc-mul}
-use lib.Dec.{ltb}
 use lib.IntN.{ℤ, pos}
-use Rattle.std.specs.declared.option.Option.{Option}
-use Rattle.std.specs.declared.option.Option.the-variants.{Some, None}
 use Rattle.lexing.specs.Tokens.{same-bytes}
-use Rattle.regions.specs.Model.{Rule}
-use Rattle.language.specs.Syntax.{Ident, Atom, Op, add, sub, mul, div, rem, eq, lt, Right, Block, atom, oper, nil, cons, call, test, region, split, last, bind, print, Param, Fun, Script}
-use Rattle.language.specs.Types.{Name}
-use Rattle.language.specs.Scope.{find, find-function}
-use Rattle.language.specs.Arithmetic.{same-number, has-divisor}
+use Rattle.language.specs.Syntax.{Ident, add, sub, mul, div, rem, eq, lt, Right, Block, atom, oper, nil, cons, call, test, region, split, last, bind, print, Script}
+use Rattle.language.specs.Arithmetic.{same-number}
 use Rattle.language.specs.Values.{Value, number, empty, link, Held, value-of, number-of}
-use Rattle.language.specs.Questions.{Ending, Next, moves, calls, prints, grows, divides, ends, Stint, Stop, Turn, on, stop, asked, charged, filled, moved, turn}
-use Rattle.language.specs.Plain.{Placed, Frame, inner, closing, returning, State, state, chosen, function-of, split-value, operated, after-block, at-right, at-block, next}
-use Rattle.language.specs.Carried.{block-size, right-size, frames-size, script-size}
+use Rattle.language.specs.Questions.{Next, moves, calls, prints, grows, divides, ends}
+use Rattle.language.specs.Plain.{Placed, Frame, inner, closing, returning, State, state, chosen, function-of, split-value, after-block, at-right, at-block, next}
+use Rattle.language.specs.Carried.{block-size, frames-size, script-size}
 
 -- the words that are left to a run, calls apart
 abbrev pub rest : State → ℕ

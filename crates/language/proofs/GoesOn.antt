@@ -1,19 +1,18 @@
 -- More units and entries change no word before the stop, and what was used and printed before changes none after it.
 use mathlib.Core.Path.{_≡_, refl, sym, ap, _∙_, subst}
 use mathlib.Core.Bool.{Bool, true, false}
-use mathlib.Core.List.{List, [], _∷_, _++_}
+use mathlib.Core.List.{List, _++_}
 use Prim.Native.Nat.{ℕ, zero, suc, _+_}
 use native.Mathlib.Nat.{suc-add, add-zero, add-suc}
-use native.Mathlib.Omega.{arith}
 use lib.Dec.{ltb}
 use lib.IntN.{ℤ, pos}
 use Rattle.std.proofs.shelf.Lists.{append-assoc, append-nil}
 use Rattle.regions.specs.Model.{Rule}
 use Rattle.language.specs.Arithmetic.{same-number}
-use Rattle.language.specs.Questions.{Ending, too-deep, exhausted, zero-divisor, Next, moves, calls, prints, grows, divides, ends, Stint, Stop, Turn, on, stop, halt, asked, charged, filled, moved, turn, Reaches, already, onward, Comes-to, here, later, begun}
+use Rattle.language.specs.Questions.{too-deep, exhausted, zero-divisor, Next, moves, calls, prints, grows, divides, ends, Stint, Stop, Turn, on, stop, halt, asked, charged, filled, moved, Reaches, already, onward, Comes-to, here, later, begun}
 use Rattle.language.specs.Plain.{State, next}
 use Rattle.language.specs.RunLaws.{Goes-on, joined}
-use Rattle.language.proofs.Turns.{on-is, stop-is, not-both, reached, reaches-comes, Outcome, free, paid, put, granted, divided, halts, finishes, outcome}
+use Rattle.language.proofs.Turns.{on-is, not-both, reached, reaches-comes, Outcome, free, paid, put, granted, divided, halts, finishes, outcome}
 
 module _ {S : Type 0} (a b : ℕ) where
   -- with a more units and b more entries

@@ -19,3 +19,4 @@ pub mod OneAnswer
 pub mod Exhausted
 pub mod References
 pub mod Striking
+pub mod CallsKeep

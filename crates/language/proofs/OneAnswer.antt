@@ -1,19 +1,11 @@
 -- A resume that is not refused answers by the stop that its run comes to.
-use mathlib.Core.Path.{_≡_, refl, sym, ap, _∙_, subst}
-use mathlib.Core.Bool.{Bool, true, false}
-use mathlib.Core.List.{List}
+use mathlib.Core.Path.{_≡_, sym, ap}
+use mathlib.Core.Bool.{true}
 use Prim.Native.Nat.{ℕ, _+_, _≤_}
 use native.Mathlib.Omega.{arith}
 use lib.Dec.{leb}
-use lib.IntN.{ℤ}
 use Rattle.std.proofs.shelf.Ways.{tells}
-use Rattle.std.specs.declared.option.Option.{Option}
-use Rattle.std.specs.declared.option.Option.the-variants.{Some, None}
-use Rattle.regions.specs.Model.{Rule}
-use Rattle.language.specs.Questions.{Stint, Stop, Comes-to}
-use Rattle.language.specs.Plain.{State, next}
-use Rattle.language.specs.Carried.{carried}
-use Rattle.language.specs.PlainSession.{Session, Run, Answer, resume, answered, stopped, resumed, resume-call}
+use Rattle.language.specs.PlainSession.{stopped, resumed, resume-call}
 use Rattle.language.specs.RunLaws.{One-answer}
 use Rattle.language.proofs.Turns.{one-stop}
 use Rattle.language.proofs.OneStop.{comes}

@@ -1,18 +1,16 @@
 -- Every stint comes to exactly one stop, and `carried` computes it: the words that it can take never run out.
 use mathlib.Core.Path.{_≡_, refl, sym, subst}
-use mathlib.Core.List.{List}
 use Prim.Native.Nat.{ℕ, zero, suc, _+_, _*_, _<_}
 use native.Mathlib.Omega.{arith}
 use native.Mathlib.Nat.{suc-mul}
-use Rattle.std.specs.declared.option.Option.{Option}
-use Rattle.std.specs.declared.option.Option.the-variants.{Some, None}
+use Rattle.std.specs.declared.option.Option.the-variants.{Some}
 use Rattle.regions.specs.Model.{Rule}
-use Rattle.language.specs.Questions.{Next, Stint, Stop, Turn, on, stop, moved, turn, Comes-to, here, later, within}
+use Rattle.language.specs.Questions.{Next, Stint, Stop, Turn, on, stop, turn, Comes-to, here, later, within}
 use Rattle.language.specs.Plain.{State, next}
 use Rattle.language.specs.Carried.{script-size, enough, carried}
 use Rattle.language.specs.RunLaws.{One-stop}
 use Rattle.language.proofs.Turns.{on-is, not-both, one-stop, Outcome, free, paid, put, granted, divided, halts, finishes, outcome}
-use Rattle.language.proofs.Falls.{rest, Less, Fall, falls}
+use Rattle.language.proofs.Falls.{rest, Fall, falls}
 
 -- the words that a stint can take
 abbrev left : Stint State → ℕ

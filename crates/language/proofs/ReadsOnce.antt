@@ -1,13 +1,11 @@
 -- A word reads as at most one value: the reference settles position and place, and the words there the rest.
-use mathlib.Core.Path.{_≡_, refl, sym, ap, _∙_}
+use mathlib.Core.Path.{_≡_, refl}
 use mathlib.Core.List.{List}
-use Prim.Native.Nat.{ℕ, _<_}
+use Prim.Native.Nat.{ℕ}
 use native.Mathlib.Omega.{arith}
-use Rattle.std.specs.declared.option.Option.{Option}
-use Rattle.std.specs.declared.option.Option.the-variants.{Some, None}
 use Rattle.regions.specs.Model.{Regions}
-use Rattle.language.specs.Types.{RegionType, int, list}
-use Rattle.language.specs.Values.{Value, number, empty, link}
+use Rattle.language.specs.Types.{RegionType}
+use Rattle.language.specs.Values.{Value}
 use Rattle.language.specs.Plain.{Placed}
 use Rattle.language.specs.Reads.{Reads, reads-number, reads-empty, reads-link}
 

@@ -1,8 +1,5 @@
 -- A reference says its position and its place.
-use mathlib.Core.Path.{_≡_}
-use Prim.Native.Nat.{ℕ, suc, _+_, _*_, _<_}
 use native.Mathlib.Omega.{arith}
-use Rattle.language.specs.Reads.{reference, region-of, place-of}
 use Rattle.language.specs.RunLaws.{Reference-says}
 
 pub proof : Reference-says

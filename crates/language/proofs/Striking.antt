@@ -3,10 +3,10 @@ use mathlib.Core.Path.{_≡_, refl, ap, _∙_}
 use mathlib.Core.List.{List, [], _∷_, map}
 use Prim.Native.Nat.{ℕ, suc}
 use lib.Chars.{codes}
-use Rattle.language.specs.Syntax.{Ident, Ty, int, list, Atom, var, num, Op, add, sub, mul, div, rem, eq, lt, Right, atom, oper, nil, cons, call, test, region, split, Block, last, bind, print, Param, Fun, Script}
-use Rattle.language.specs.Spelling.{Spelled, word, word-at, block-at, list-at, name, number, key, mark, spell-commas, spell-name, spell-regions, spell-list, spell-type, spell-atom, op-word, spell-right, spell-inside, spell-param, spell-fun, spell}
-use Rattle.language.specs.Struck.{struck-type, struck-right, struck-block, struck-param, struck-fun, struck-script}
-use Rattle.language.specs.Striking.{Striking, keeping, one-name, to-bracket, struck-from, struck-tokens, bare-spell-type, bare-spell-right, bare-spell-inside, bare-spell-param, bare-spell-fun, bare-spell}
+use Rattle.language.specs.Syntax.{Ident, Ty, int, list, Atom, var, num, add, sub, mul, div, rem, eq, lt, Right, atom, oper, nil, cons, call, test, region, split, Block, last, bind, print, Param, Fun}
+use Rattle.language.specs.Spelling.{Spelled, word-at, block-at, list-at, name, key, mark, spell-commas, spell-name, spell-regions, spell-list, spell-type, spell-atom, spell-right, spell-inside, spell-param, spell-fun, spell}
+use Rattle.language.specs.Struck.{struck-type, struck-right, struck-block, struck-param, struck-fun}
+use Rattle.language.specs.Striking.{to-bracket, struck-from, struck-tokens, bare-spell-type, bare-spell-right, bare-spell-inside, bare-spell-param, bare-spell-fun}
 use Rattle.language.specs.RunLaws.{Struck-spelling}
 
 -- one entry more on both sides

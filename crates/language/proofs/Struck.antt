@@ -1,22 +1,19 @@
 -- Word by word the script without region words does what the plain run does, as long as nothing is denied.
-use mathlib.Core.Path.{_≡_, refl, sym, ap, _∙_, subst}
+use mathlib.Core.Path.{_≡_, refl, ap, _∙_, subst}
 use mathlib.Core.Bool.{Bool, true, false}
-use mathlib.Core.List.{List, [], _∷_, _++_, map}
+use mathlib.Core.List.{List, [], _∷_, map}
 use Prim.Native.Nat.{ℕ, zero, suc}
-use native.Mathlib.Omega.{arith}
 use lib.Dec.{ltb}
 use lib.IntN.{ℤ, pos}
-use Rattle.std.specs.declared.option.Option.{Option}
-use Rattle.std.specs.declared.option.Option.the-variants.{Some, None}
 use Rattle.lexing.specs.Tokens.{same-bytes}
 use Rattle.regions.specs.Model.{Rule}
-use Rattle.language.specs.Syntax.{Ident, Atom, Op, add, sub, mul, div, rem, eq, lt, Right, Block, atom, oper, nil, cons, call, test, region, split, last, bind, print, Param, Fun, Script}
+use Rattle.language.specs.Syntax.{Ident, add, sub, mul, div, rem, eq, lt, Right, Block, atom, oper, nil, cons, call, test, region, split, last, bind, print, Param, Script}
 use Rattle.language.specs.Arithmetic.{same-number}
-use Rattle.language.specs.Values.{Value, number, empty, link, Held, value-of, values-of, number-of, handed}
-use Rattle.language.specs.Questions.{Ending, spent, full, exhausted, too-deep, zero-divisor, Next, moves, calls, prints, grows, divides, ends, Stint, Stop, Turn, on, stop, halt, asked, charged, filled, moved, turn, Reaches, already, onward, Comes-to, here, later}
+use Rattle.language.specs.Values.{Value, number, empty, link, Held, value-of, number-of}
+use Rattle.language.specs.Questions.{exhausted, too-deep, zero-divisor, Next, moves, calls, prints, grows, divides, ends, Stint, Stop, Turn, on, stop, halt, asked, charged, filled, moved, turn, Reaches, already, onward, Comes-to, here, later}
 use Rattle.language.specs.Plain.{Placed, Frame, inner, closing, returning, State, state, chosen, function-of, param-names, unfinished, split-value, after-block, at-right, at-block, next, main, started}
-use Rattle.language.specs.Struck.{Bare-block, Bare-fun, struck-block, struck-param, struck-fun, struck-script}
-use Rattle.language.specs.StruckRun.{Bare-frame, Bare-state, bare, bare-function-of, bare-param-names, bare-unfinished, bare-after, bare-split, bare-right, bare-block, bare-next, bare-started, struck-frame, struck-state, struck-stint, struck-stop}
+use Rattle.language.specs.Struck.{struck-block, struck-param, struck-fun, struck-script}
+use Rattle.language.specs.StruckRun.{Bare-state, bare-function-of, bare-param-names, bare-unfinished, bare-after, bare-split, bare-next, bare-started, struck-frame, struck-state, struck-stint, struck-stop}
 use Rattle.language.specs.RunLaws.{Struck-alike}
 use Rattle.language.proofs.Turns.{reached}
 

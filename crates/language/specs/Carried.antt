@@ -4,7 +4,7 @@ use Prim.Native.Nat.{ℕ, suc, _+_, _*_}
 use lib.IntN.{pos}
 use Rattle.std.specs.declared.option.Option.the-variants.{Some, None}
 use Rattle.regions.specs.Model.{Rule}
-use Rattle.language.specs.Syntax.{Right, Block, atom, oper, nil, cons, call, test, region, split, last, bind, print, Fun, Script}
+use Rattle.language.specs.Syntax.{Right, Block, atom, oper, nil, cons, call, test, region, split, last, bind, print, Script}
 use Rattle.language.specs.Questions.{spent, Stint, Stop, within}
 use Rattle.language.specs.Plain.{Frame, inner, closing, returning, State, next}
 

@@ -1,6 +1,6 @@
 -- The plain run: the script on values, with the account of region lengths beside it and the positions that region names mean.
 -- It is told of checked scripts. So that it is total, a function or a region out of scope has a fixed meaning here too; no checked script has one.
-use mathlib.Core.Bool.{Bool, true, false}
+use mathlib.Core.Bool.{true, false}
 use mathlib.Core.List.{List, [], _∷_, _++_, map}
 use Prim.Native.Nat.{ℕ, suc, _-_}
 use lib.Chars.{codes}
@@ -9,7 +9,7 @@ use lib.ListN.{length, take}
 use Rattle.std.specs.declared.option.Option.{Option}
 use Rattle.std.specs.declared.option.Option.the-variants.{Some, None}
 use Rattle.regions.specs.Model.{longer}
-use Rattle.language.specs.Syntax.{Ident, Ty, int, Atom, num, Op, Right, Block, atom, oper, nil, cons, call, test, region, split, last, bind, print, Param, Fun, Script}
+use Rattle.language.specs.Syntax.{Ident, int, num, Op, Right, Block, atom, oper, nil, cons, call, test, region, split, last, bind, print, Param, Fun, Script}
 use Rattle.language.specs.Types.{Name}
 use Rattle.language.specs.Scope.{find, find-function}
 use Rattle.language.specs.Arithmetic.{calculated, has-divisor, same-number}

@@ -1,5 +1,5 @@
 -- The plain session: what each of the calls load, start, resume and stop answers, and what the session holds then.
-use mathlib.Core.Bool.{Bool, true, false}
+use mathlib.Core.Bool.{true, false}
 use mathlib.Core.List.{List, [], _∷_, _++_}
 use Prim.Native.Nat.{ℕ, _+_}
 use lib.Dec.{leb}

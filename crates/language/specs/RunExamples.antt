@@ -15,7 +15,6 @@ use Rattle.regions.specs.Rules.{arena-rule, quota-rule}
 use Rattle.language.specs.CheckingExamples.{outcome}
 use Rattle.language.specs.CheckingExamples as checked
 use Rattle.language.specs.Questions.{ending-number}
-use Rattle.language.specs.Plain.{Placed}
 use Rattle.language.specs.PlainSession.{new, Call, load, start, resume, stop, Answer, done, told, refused, feed, refusal-number}
 use Rattle.language.specs.Reads.{Reads, reference}
 use Rattle.language.specs.RunScripts.{sum-program, deep-program, handing-program, cut-program, twice-program}

@@ -1,11 +1,10 @@
 -- Laws that hold the plain run, the striking out and the reading of lists to the subject.
 use mathlib.Core.Path.{_≡_}
-use mathlib.Core.Bool.{Bool, false}
-use mathlib.Core.List.{List, [], _∷_, _++_}
+use mathlib.Core.Bool.{false}
+use mathlib.Core.List.{List, _++_}
 use Prim.Native.Nat.{ℕ, _+_, _≤_, _<_}
 use lib.IntN.{ℤ}
 use lib.ListN.{length}
-use Rattle.std.specs.declared.option.Option.{Option}
 use Rattle.std.specs.declared.option.Option.the-variants.{Some}
 use Rattle.regions.specs.Model.{Rule, Regions}
 use Rattle.language.specs.Syntax.{Script}
@@ -14,7 +13,7 @@ use Rattle.language.specs.Values.{Value}
 use Rattle.language.specs.Questions.{spent, full, exhausted, grows, Stint, Stop, Reaches, Comes-to, begun}
 use Rattle.language.specs.Plain.{State, Placed, next, started}
 use Rattle.language.specs.Carried.{carried}
-use Rattle.language.specs.PlainSession.{Session, Run, Answer, resume, answered, stopped, resumed}
+use Rattle.language.specs.PlainSession.{Session, Run, Refusal, Call, resume, Told, told, refused, answered, stopped, resumed}
 use Rattle.language.specs.Spelling.{spell}
 use Rattle.language.specs.Struck.{struck-script}
 use Rattle.language.specs.Striking.{struck-tokens, bare-spell}
@@ -29,6 +28,12 @@ One-stop = (grants : Rule) (t : Stint State) → Comes-to next grants t (carried
 abbrev pub One-answer : Type 0
 One-answer = (grants : Rule) (units : ℕ) (entries : List ℤ) (s : Session) (c : Run) (e : Stop State) → s .run ≡ Some c → c .used + units ≤ 4294967295 →
     Comes-to next grants (resumed c units entries) e → answered grants (resume units entries) s ≡ stopped e c entries s
+
+-- A refusal changes no session, and a resume fills its list without lengthening or shortening it.
+pub record Calls-keep : Type 0 where
+  pub refused-session : (grants : Rule) (c : Call) (s : Session) (r : Refusal) → answered grants c s .0 ≡ refused r → answered grants c s .1 ≡ s
+  pub list-length : (grants : Rule) (units : ℕ) (entries : List ℤ) (s : Session) (t : Told) → answered grants (resume units entries) s .0 ≡ told t →
+      length (t .entries) ≡ length entries
 
 -- Striking out the region words in the tokens of a script leaves the tokens of the struck-out script, each at its place.
 abbrev pub Struck-spelling : Type 0

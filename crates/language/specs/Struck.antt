@@ -1,5 +1,5 @@
 -- The script with its region words struck out, at the places of the text: no `@` with its name, no bracketed list of regions, and of `region a { .. }` its block.
-use mathlib.Core.List.{List, [], _∷_, map}
+use mathlib.Core.List.{List, map}
 use Prim.Native.Nat.{ℕ}
 use Rattle.language.specs.Syntax.{Ident, Ty, Atom, Op, Right, Block, Param, Fun, Script}
 

@@ -1,11 +1,10 @@
 -- The run of a script without region words, on values alone. A function that is not there has a fixed meaning, as in the plain run.
-use mathlib.Core.Bool.{Bool, true, false}
+use mathlib.Core.Bool.{true, false}
 use mathlib.Core.List.{List, [], _∷_, map}
 use Prim.Native.Nat.{ℕ, suc}
 use lib.IntN.{ℤ, pos}
-use Rattle.std.specs.declared.option.Option.{Option}
 use Rattle.std.specs.declared.option.Option.the-variants.{Some, None}
-use Rattle.language.specs.Syntax.{Ident, Atom, num, Op}
+use Rattle.language.specs.Syntax.{Ident, num, Op}
 use Rattle.language.specs.Scope.{find}
 use Rattle.language.specs.Arithmetic.{calculated, has-divisor}
 use Rattle.language.specs.Values.{Value, number, empty, link, Held, holding, number-of, value-of, values-of, handed}

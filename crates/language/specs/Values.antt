@@ -1,7 +1,6 @@
 -- Values: numbers and lists, of which nothing is freed; and the variables that hold them.
 use mathlib.Core.List.{List, [], _∷_, _++_}
 use lib.IntN.{ℤ, pos}
-use Rattle.std.specs.declared.option.Option.{Option}
 use Rattle.std.specs.declared.option.Option.the-variants.{Some, None}
 use Rattle.language.specs.Syntax.{Ident, Atom, var, num}
 use Rattle.language.specs.Types.{Name}

@@ -1,0 +1,5 @@
+use Rattle.language.proofs.running.calls_keep.Needs as need
+use Rattle.language.proofs.CallsKeep.{proof}
+
+pub returns : need.returns
+returns c = proof
