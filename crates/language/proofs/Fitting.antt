@@ -32,7 +32,7 @@ kind-back Keyword = refl
 kind-back Numeral = refl
 kind-back Mark = refl
 
-same-kind : (j k : Kind) → kind-number j ≡ kind-number k → j ≡ k
+pub same-kind : (j k : Kind) → kind-number j ≡ kind-number k → j ≡ k
 same-kind j k e = sym (kind-back j) ∙ ap kind-from e ∙ kind-back k
 
 same-is : (v w : List ℕ) → same-bytes v w ≡ true → v ≡ w

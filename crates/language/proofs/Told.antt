@@ -39,7 +39,7 @@ abbrev pub Either : {A : Type 0} → Lang A → Lang A → Lang A
 Either L M x is = L x is ⊎ M x is
 
 abbrev pub Spelt : {A : Type 0} → (A → List Spelled → List Spelled) → Lang A
-Spelt spell x is = (js : List Spelled) → spell x js ≡ is ++ js
+Spelt spell x is = (js : List Spelled) → is ++ js ≡ spell x js
 
 -- a language has a value, and tokens that fit its spelling
 pub record Live {A : Type 0} (L : Lang A) : Type 0 where
@@ -248,15 +248,15 @@ module _ {f : Frame} where
     ; live = l }
 
   -- one way behind a word, another where it does not stand
-  module _ {A : Type 0} (room : ℕ) (k : Kind) (w : List ℕ) (item : ℕ → Spelled) (fits : (t : Lexeme) → Is k w t → Fits (item (t .place)) t)
-      (K K' : ℕ → Reader A) (S S' : Reader A) (L : ℕ → Lang A) (M : Lang A) (other : Law f (suc room) S S' M) (never : (x : A) → M x [] → ⊥) where
+  module _ {A : Type 0} (room n : ℕ) (less : n ≤ suc room) (k : Kind) (w : List ℕ) (item : ℕ → Spelled) (fits : (t : Lexeme) → Is k w t → Fits (item (t .place)) t)
+      (K K' : ℕ → Reader A) (S S' : Reader A) (L : ℕ → Lang A) (M : Lang A) (other : Law f n S S' M) (never : (x : A) → M x [] → ⊥) where
     abbrev O' : Reader A
     O' = on (f .end) k w K' S'
 
     abbrev E : Lang A
     E = Either (After item L) M
 
-    otherwise : (ts : List Lexeme) → starts k w ts ≡ false → (a : Answer A) → Told f (suc room) S' M ts a → Told f (suc room) O' E ts a
+    otherwise : (ts : List Lexeme) → starts k w ts ≡ false → (a : Answer A) → Told f n S' M ts a → Told f n O' E ts a
     otherwise ts e _ (read r) = read (record {
         used = r .used; entries = r .entries; split = r .split; spelled = inr (r .spelled); fit = r .fit; fine = r .fine
       ; again = λ o. skips (f .end) k w K' S' (r .used ++ o) (same-start k w (r .used) _ o (λ z. absurd (never _ (subst (M _) (empty-fit (r .fit) z) (r .spelled)))) ∙ ap (starts k w) (sym (r .split)) ∙ e) ∙ r .again o })
@@ -270,15 +270,15 @@ module _ {f : Frame} where
       ; again = λ same o. skips (f .end) k w K' S' (r .used ++ (r .token ∷ o)) (same-start k w (r .used) (r .token ∷ r .left) (r .token ∷ o) (λ _. both-at) ∙ ap (starts k w) (sym (r .split)) ∙ e) ∙ r .again same o })
     otherwise ts e _ (spent h) = spent h
 
-    on-told : ((t : Lexeme) (ts : List Lexeme) → Is k w t → starts k w (t ∷ ts) ≡ true → Told f (suc room) O' E (t ∷ ts) (K (t .place) ts)) → (ts : List Lexeme) → Told f (suc room) O' E ts (on (f .end) k w K S ts)
+    on-told : ((t : Lexeme) (ts : List Lexeme) → Is k w t → starts k w (t ∷ ts) ≡ true → Told f n O' E (t ∷ ts) (K (t .place) ts)) → (ts : List Lexeme) → Told f n O' E ts (on (f .end) k w K S ts)
     on-told met ts = go ts (starts k w ts) refl
       where
-        go : (ts : List Lexeme) (b : Bool) → starts k w ts ≡ b → Told f (suc room) O' E ts (elim b [ true ↦ K (here (f .end) ts) (rest ts) | false ↦ S ts ])
+        go : (ts : List Lexeme) (b : Bool) → starts k w ts ≡ b → Told f n O' E ts (elim b [ true ↦ K (here (f .end) ts) (rest ts) | false ↦ S ts ])
         go [] true e = false-true e
         go (t ∷ ts) true e = met t ts (starts-is k w t ts e) e
         go ts false e = otherwise ts e (S ts) (other .told ts)
 
-    met : ((p : ℕ) → shallow (f .blocks) (f .lists) (item p) ≡ true) → (t : Lexeme) (ts : List Lexeme) → Is k w t → starts k w (t ∷ ts) ≡ true → (a : Answer A) → Told f room (K' (t .place)) (L (t .place)) ts a → Told f (suc room) O' E (t ∷ ts) a
+    met : ((p : ℕ) → shallow (f .blocks) (f .lists) (item p) ≡ true) → (t : Lexeme) (ts : List Lexeme) → Is k w t → starts k w (t ∷ ts) ≡ true → (a : Answer A) → Told f room (K' (t .place)) (L (t .place)) ts a → Told f n O' E (t ∷ ts) a
     met flat t ts is e _ (read r) = read (record {
         used = t ∷ r .used; entries = item (t .place) ∷ r .entries; split = ap (λ o. t ∷ o) (r .split); spelled = inl (after (r .spelled)); fit = more (fits t is) (r .fit)
       ; fine = shallows-more (f .blocks) (f .lists) (item (t .place)) (r .entries) (flat (t .place)) (r .fine)
@@ -295,33 +295,54 @@ module _ {f : Frame} where
     met flat t ts is e _ (spent h) = spent (omega arith)
 
     -- the word is within the limits
-    within : ((p : ℕ) → shallow (f .blocks) (f .lists) (item p) ≡ true) → ((p : ℕ) → Law f room (K p) (K' p) (L p)) → Law f (suc room) (on (f .end) k w K S) O' E
+    within : ((p : ℕ) → shallow (f .blocks) (f .lists) (item p) ≡ true) → ((p : ℕ) → Law f room (K p) (K' p) (L p)) → Law f n (on (f .end) k w K S) O' E
     within flat law = record {
         told = on-told (λ t ts is e. met flat t ts is e (K (t .place) ts) (law (t .place) .told ts))
       ; live = let l = other .live in record { value = l .value; entries = l .entries; tokens = l .tokens; spelled = inr (l .spelled); fit = l .fit } }
 
-  pub on-law : {A : Type 0} {room : ℕ} (k : Kind) (w : List ℕ) (item : ℕ → Spelled) → ((t : Lexeme) → Is k w t → Fits (item (t .place)) t)
+  pub on-law : {A : Type 0} {room n : ℕ} → n ≤ suc room → (k : Kind) (w : List ℕ) (item : ℕ → Spelled) → ((t : Lexeme) → Is k w t → Fits (item (t .place)) t)
       → ((p : ℕ) → shallow (f .blocks) (f .lists) (item p) ≡ true)
-      → {K K' : ℕ → Reader A} {S S' : Reader A} {L : ℕ → Lang A} {M : Lang A} → ((p : ℕ) → Law f room (K p) (K' p) (L p)) → Law f (suc room) S S' M → ((x : A) → M x [] → ⊥)
-      → Law f (suc room) (on (f .end) k w K S) (on (f .end) k w K' S') (Either (After item L) M)
-  on-law {room = room} k w item fits flat {K} {K'} {S} {S'} {L} {M} law other never = within room k w item fits K K' S S' L M other never flat law
+      → {K K' : ℕ → Reader A} {S S' : Reader A} {L : ℕ → Lang A} {M : Lang A} → ((p : ℕ) → Law f room (K p) (K' p) (L p)) → Law f n S S' M → ((x : A) → M x [] → ⊥)
+      → Law f n (on (f .end) k w K S) (on (f .end) k w K' S') (Either (After item L) M)
+  on-law {room = room} {n} less k w item fits flat {K} {K'} {S} {S'} {L} {M} law other never = within room n less k w item fits K K' S S' L M other never flat law
 
   -- a word that has to stand there
-  pub demand-law : {A : Type 0} {room : ℕ} (k : Kind) (w : List ℕ) (item : ℕ → Spelled) → ((t : Lexeme) → Is k w t → Fits (item (t .place)) t)
+  pub demand-law : {A : Type 0} {room n : ℕ} → n ≤ suc room → (k : Kind) (w : List ℕ) (item : ℕ → Spelled) → ((t : Lexeme) → Is k w t → Fits (item (t .place)) t)
       → ((p : ℕ) → shallow (f .blocks) (f .lists) (item p) ≡ true)
       → {K K' : ℕ → Reader A} {L : ℕ → Lang A} → ((p : ℕ) → Law f room (K p) (K' p) (L p))
-      → Law f (suc room) (on (f .end) k w K (refuse (f .end) 6)) (on (f .end) k w K' (refuse (f .end) 6)) (After item L)
-  demand-law k w item fits flat {L = L} law =
-      widen (λ x is. elim [ inl h ↦ h | inr h ↦ h ]) (on-law k w item fits flat law (refuse-law (after-live k w item fits {L = L} (law 0 .live))) (λ x. never-after x [] refl))
+      → Law f n (on (f .end) k w K (refuse (f .end) 6)) (on (f .end) k w K' (refuse (f .end) 6)) (After item L)
+  demand-law less k w item fits flat {L = L} law =
+      widen (λ x is. elim [ inl h ↦ h | inr h ↦ h ]) (on-law less k w item fits flat law (refuse-law (after-live k w item fits {L = L} (law 0 .live))) (λ x. never-after x [] refl))
 
   -- a word that opens what nests too deep
-  pub forbid-law : {A : Type 0} {room : ℕ} (k : Kind) (w : List ℕ) (item : Spelled) → ((t : Lexeme) → Is k w t → Fits item t) → shallow (f .blocks) (f .lists) item ≡ false
+  pub forbid-law : {A : Type 0} {n : ℕ} (k : Kind) (w : List ℕ) (item : Spelled) → ((t : Lexeme) → Is k w t → Fits item t) → shallow (f .blocks) (f .lists) item ≡ false
       → {K' : ℕ → Reader A} {S S' : Reader A} {L M : Lang A} → Live L → (f .Same → (p : ℕ) (ts : List Lexeme) → K' p ts ≡ Err (record { number = 7; place = p }))
-      → Law f (suc room) S S' M → ((x : A) → M x [] → ⊥)
-      → Law f (suc room) (on (f .end) k w (λ p ts. Err (record { number = 7; place = p })) S) (on (f .end) k w K' S') (Either (After (λ _. item) (λ _. L)) M)
-  forbid-law {A} {room} k w item fits sunk {K'} {S} {S'} {L} {M} l same other never = record {
-      told = on-told room k w (λ _. item) fits (λ p ts. Err (record { number = 7; place = p })) K' S S' (λ _. L) M other never (λ t ts is e. deep (record {
+      → Law f n S S' M → ((x : A) → M x [] → ⊥)
+      → Law f n (on (f .end) k w (λ p ts. Err (record { number = 7; place = p })) S) (on (f .end) k w K' S') (Either (After (λ _. item) (λ _. L)) M)
+  forbid-law {A} {n} k w item fits sunk {K'} {S} {S'} {L} {M} l same other never = record {
+      told = on-told n n (omega arith) k w (λ _. item) fits (λ p ts. Err (record { number = 7; place = p })) K' S S' (λ _. L) M other never (λ t ts is e. deep (record {
           used = []; token = t; left = ts; value = l .value; entries = []; entry = item; next = l .entries; tokens = l .tokens; split = refl; at = refl
         ; spelled = inl (after {p = 0} (l .spelled)); fit = none; fine = refl; fits = fits t is; deep = sunk; goes-on = l .fit
         ; again = λ s o. meets (f .end) k w K' S' (t ∷ o) e ∙ same s (t .place) o }))
     ; live = let l = other .live in record { value = l .value; entries = l .entries; tokens = l .tokens; spelled = inr (l .spelled); fit = l .fit } }
+
+  -- the same three, where the language that is wanted holds both ways
+  module _ {A : Type 0} {n : ℕ} (k : Kind) (w : List ℕ) (T : Lang A) (never : (x : A) → T x [] → ⊥) where
+    pub on-to : {room : ℕ} → n ≤ suc room → (item : ℕ → Spelled) → ((t : Lexeme) → Is k w t → Fits (item (t .place)) t) → ((p : ℕ) → shallow (f .blocks) (f .lists) (item p) ≡ true)
+        → {K K' : ℕ → Reader A} {S S' : Reader A} {L : ℕ → Lang A} → ((p : ℕ) (x : A) (is : List Spelled) → L p x is → T x (item p ∷ is))
+        → ((p : ℕ) → Law f room (K p) (K' p) (L p)) → Law f n S S' T → Law f n (on (f .end) k w K S) (on (f .end) k w K' S') T
+    on-to less item fits flat {L = L} into law other = widen wide (on-law less k w item fits flat law other never)
+      where
+        wide : (x : A) (is : List Spelled) → Either (After item L) T x is → T x is
+        wide x _ (inl (after h)) = into _ x _ h
+        wide x is (inr h) = h
+
+    pub forbid-to : (item : Spelled) → ((t : Lexeme) → Is k w t → Fits item t) → shallow (f .blocks) (f .lists) item ≡ false
+        → {K' : ℕ → Reader A} {S S' : Reader A} {L : Lang A} → ((x : A) (is : List Spelled) → L x is → T x (item ∷ is)) → Live L
+        → (f .Same → (p : ℕ) (ts : List Lexeme) → K' p ts ≡ Err (record { number = 7; place = p }))
+        → Law f n S S' T → Law f n (on (f .end) k w (λ p ts. Err (record { number = 7; place = p })) S) (on (f .end) k w K' S') T
+    forbid-to item fits sunk {L = L} into l same other = widen wide (forbid-law k w item fits sunk l same other never)
+      where
+        wide : (x : A) (is : List Spelled) → Either (After (λ _. item) (λ _. L)) T x is → T x is
+        wide x _ (inl (after h)) = into x _ h
+        wide x is (inr h) = h
