@@ -1,3 +1,4 @@
 pub mod Fitting
 pub mod Told
 pub mod Parts
+pub mod Blocks
