@@ -2,3 +2,4 @@ pub mod Fitting
 pub mod Told
 pub mod Parts
 pub mod Blocks
+pub mod Complete

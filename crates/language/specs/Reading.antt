@@ -89,19 +89,24 @@ name-of end = one end name-in
 abbrev pub atom-of : ℕ → Reader Atom
 atom-of end = one end atom-in
 
+-- an element before others, or as the last with the closing mark behind it
+abbrev pub before : {A : Type 0} → A → Reader (List A) → Reader (List A)
+before x others ts = then (others ts) λ xs. give (x ∷ xs)
+
+abbrev pub closed : {A : Type 0} → ℕ → List ℕ → A → Reader (List A)
+closed end close x ts = then (mark-of end close ts) λ _. give (x ∷ [])
+
 -- one element or more with commas between them, and the closing mark; `room` is no limit where it is above the number of tokens
 abbrev pub commas : {A : Type 0} → ℕ → List ℕ → Reader A → ℕ → Reader (List A)
 commas end close element zero ts = refuse end 0 ts
-commas end close element (suc room) ts =
-    then (element ts) λ x. on end Mark (codes ",")
-      (λ _ ts. then (commas end close element room ts) λ xs. give (x ∷ xs))
-      (λ ts. then (mark-of end close ts) λ _. give (x ∷ []))
+commas end close element (suc room) ts = then (element ts) λ x. on end Mark (codes ",") (λ _. before x (commas end close element room)) (closed end close x)
 
 -- the regions in brackets, if any, and the opening parenthesis
+abbrev pub bracketed : ℕ → ℕ → Reader (List Ident)
+bracketed end room ts = then (commas end (codes "]") (name-of end) room ts) λ rs ts. then (mark-of end (codes "(") ts) λ _. give rs
+
 abbrev pub regions : ℕ → ℕ → Reader (List Ident)
-regions end room = on end Mark (codes "[")
-    (λ _ ts. then (commas end (codes "]") (name-of end) room ts) λ rs ts. then (mark-of end (codes "(") ts) λ _. give rs)
-    (λ ts. then (mark-of end (codes "(") ts) λ _. give [])
+regions end room = on end Mark (codes "[") (λ _. bracketed end room) (λ ts. then (mark-of end (codes "(") ts) λ _. give [])
 
 -- the elements behind an opening parenthesis, if any, and the closing one
 abbrev pub elements : {A : Type 0} → ℕ → Reader A → ℕ → Reader (List A)
@@ -171,16 +176,23 @@ right-of end room type block =
     (on end Keyword (codes "case") (case-of end block)
     (λ ts. then (atom-of end ts) λ a. give (atom a))))))))))))))
 
+-- behind `let` and `print`, with the rest of the block
+abbrev pub let-of : ℕ → Reader Right → Reader Block → Reader Block
+let-of end right others ts =
+    then (name-of end ts) λ x ts. then (mark-of end (codes "=") ts) λ _ ts. then (right ts) λ r ts. then (mark-of end (codes ";") ts) λ _ ts. then (others ts) λ b. give (bind x r b)
+
+abbrev pub print-of : ℕ → Reader Block → ℕ → Reader Block
+print-of end others p ts = then (atom-of end ts) λ a ts. then (mark-of end (codes ";") ts) λ _ ts. then (others ts) λ b. give (print p a b)
+
+abbrev pub last-of : ℕ → Reader Block
+last-of end ts = then (atom-of end ts) λ a ts. then (mark-of end (codes "}") ts) λ _. give (last a)
+
 -- the items and the last atom behind an opening brace, and the closing one; `room` as above
 abbrev pub inside : ℕ → Reader Right → ℕ → Reader Block
 inside end right zero ts = refuse end 0 ts
 inside end right (suc room) ts =
-    on end Keyword (codes "let")
-      (λ _ ts. then (name-of end ts) λ x ts. then (mark-of end (codes "=") ts) λ _ ts. then (right ts) λ r ts. then (mark-of end (codes ";") ts) λ _ ts.
-        then (inside end right room ts) λ b. give (bind x r b))
-    (on end Keyword (codes "print")
-      (λ p ts. then (atom-of end ts) λ a ts. then (mark-of end (codes ";") ts) λ _ ts. then (inside end right room ts) λ b. give (print p a b))
-      (λ ts. then (atom-of end ts) λ a ts. then (mark-of end (codes "}") ts) λ _. give (last a))) ts
+    on end Keyword (codes "let") (λ _. let-of end right (inside end right room))
+    (on end Keyword (codes "print") (print-of end (inside end right room)) (last-of end)) ts
 
 -- a block in which `blocks` may be nested, itself counted
 abbrev pub block-of : ℕ → ℕ → ℕ → ℕ → Reader Block
