@@ -14,7 +14,7 @@ use Rattle.std.specs.declared.result.Result.{Result}
 use Rattle.std.specs.declared.result.Result.the-variants.{Ok, Err}
 use Rattle.lexing.specs.declared.token.Kind.{Kind}
 use Rattle.lexing.specs.declared.token.Kind.the-variants.{Name, Keyword, Numeral, Mark}
-use Rattle.lexing.specs.Tokens.{Lexeme}
+use Rattle.lexing.specs.Tokens.{Lexeme, same-bytes}
 use Rattle.lexing.specs.Numbers.{kind-number}
 use Rattle.lexing.specs.Numerals.{number-of}
 use Rattle.language.specs.Syntax.{Ident, Ty, int, list, Atom, var, num, Op, add, sub, mul, div, rem, eq, lt, Right, atom, oper, nil, cons, call, test, region, split, Block, last, bind, print, Param, Fun}
@@ -22,7 +22,8 @@ use Rattle.language.specs.Verdict.{Refused}
 use Rattle.language.specs.Spelling.{Spelled, word, word-at, block-at, list-at, name, number, key, mark, Is, Fits, Matches, none, more, op-word, spell-name, spell-atom, spell-commas, spell-regions, spell-elements, spell-list, spell-type, spell-right, spell-inside, spell-block, spell-param, spell-fun, spell}
 use Rattle.language.specs.Nesting.{shallow, shallows}
 use Rattle.language.specs.Reading.{Reader, here, rest, refuse, then, give, starts, on, is-kind, name-in, number-in, atom-in, one, name-of, atom-of, key-of, mark-of, before, closed, commas, bracketed, regions, elements, list-of, type-of, operands, nil-of, cons-of, call-of, if-of, region-of, case-of, right-of, let-of, print-of, last-of, inside, block-of, param-of, fun-of, funs}
-use Rattle.language.proofs.Fitting.{false-true, tests, starts-of, starts-self, shallows-first}
+use Rattle.language.proofs.Fitting.{false-true, same-is, tests, starts-of, starts-self, shallows-first}
+use Rattle.language.proofs.Parts.{none-some}
 use Rattle.language.proofs.Told.{meets, skips}
 
 -- the first token has a kind and bytes
@@ -189,3 +190,125 @@ module _ (end blocks lists : ℕ) where
   regions-read room [] ts js h m = passes Mark (codes "[") (λ _. bracketed end room) (first-word m) refl (then-word Mark (codes "(") m (λ p left m h. done [] left _ m))
   regions-read room (r ∷ rs) ts js h m = word-meets Mark (codes "[") (λ _. bracketed end room) _ m (λ p left m k.
       both _ (commas-read spell-name (name-of end) name-read (codes "]") refl room r rs left _ (omega arith) m) (λ left m h. then-word Mark (codes "(") m (λ p left m h. done (r ∷ rs) left _ m)))
+
+  -- no parenthesis stands where an element does
+  name-apart : (x : Ident) (ts : List Lexeme) (js : List Spelled) → Fitted ts (name x ∷ js) → starts Mark (codes ")") ts ≡ false
+  name-apart x ts js m = by (m .fit)
+    where
+      by : {ts : List Lexeme} → Matches ts (name x ∷ js) → starts Mark (codes ")") ts ≡ false
+      by (more {t = t} {ts = ts} h m) = starts-of Mark (codes ")") t ts (h .1)
+
+  atom-apart : (a : Atom) (ts : List Lexeme) (js : List Spelled) → Fitted ts (spell-atom a js) → starts Mark (codes ")") ts ≡ false
+  atom-apart (var x) ts js m = name-apart x ts js m
+  atom-apart (num p n) ts js m = by (m .fit)
+    where
+      by : {ts : List Lexeme} → Matches ts (number p n ∷ js) → starts Mark (codes ")") ts ≡ false
+      by (more {t = t} {ts = ts} h m) = starts-of {v = t .bytes} Mark (codes ")") t ts (h .1, refl)
+
+  param-apart : (q : Param) (ts : List Lexeme) (js : List Spelled) → Fitted ts (spell-param q js) → starts Mark (codes ")") ts ≡ false
+  param-apart q ts js m = name-apart (q .name) ts _ m
+
+  -- words and the ways behind them, tried one after the other
+  abbrev Table : Type 0 → Type 0
+  Table A = List (List ℕ × (ℕ → Reader A))
+
+  abbrev chain : {A : Type 0} → Table A → Reader A → Reader A
+  chain [] S = S
+  chain ((w, K) ∷ c) S = on end Keyword w K (chain c S)
+
+  abbrev find : {A : Type 0} → List ℕ → Table A → Option (ℕ → Reader A)
+  find w [] = None
+  find w ((v, K) ∷ c) = elim (same-bytes w v) [ true ↦ Some K | false ↦ find w c ]
+
+  chain-meets : {A : Type 0} (c : Table A) (S : Reader A) (w : List ℕ) (p : ℕ) (K : ℕ → Reader A) → find w c ≡ Some K → {ts : List Lexeme} {y : A} {is js : List Spelled} → Fitted ts (word-at p w ∷ is)
+      → ((left : List Lexeme) → Fitted left is → suc (length left) ≤ length ts → Reads (K p) left y js) → Reads (chain c S) ts y js
+  chain-meets [] S w p K e m go = none-some e
+  chain-meets {A} ((v, X) ∷ c) S w p K e {ts} {y} {is} {js} m go = by (same-bytes w v) refl e (λ e. chain-meets c S w p K e m go)
+    where
+      by : (b : Bool) → same-bytes w v ≡ b → _≡_ {A = Option (ℕ → Reader A)} (elim b [ true ↦ Some X | false ↦ find w c ]) (Some K) → (find w c ≡ Some K → Reads (chain c S) ts y js) → Reads (on end Keyword v X (chain c S)) ts y js
+      by true h e others =
+          let q : X ≡ K = cc in
+          let z : w ≡ v = same-is w v h in
+          subst (λ o. Reads (on end Keyword v o (chain c S)) ts y js) (sym q) (subst (λ o. Reads (on end Keyword o K (chain c S)) ts y js) z (place-meets w K (chain c S) p m go))
+      by false h e others = passes Keyword v X (first-at m) h (others e)
+
+  chain-passes : {A : Type 0} (c : Table A) (S : Reader A) (a : Atom) (is : List Spelled) {ts : List Lexeme} {y : A} {js : List Spelled} → Fitted ts (spell-atom a is) → Reads S ts y js → Reads (chain c S) ts y js
+  chain-passes [] S a is m r = r
+  chain-passes ((v, X) ∷ c) S a is m r = pass-atom Keyword v X a is (λ _. refl) (λ _. refl) m (chain-passes c S a is m r)
+
+  module _ (room : ℕ) where
+    abbrev blk : ℕ → Reader Block
+    blk a = block-of end room lists a
+
+    abbrev rgt : ℕ → Reader Right
+    rgt a = right-of end room (type-of end lists) (blk a)
+
+    abbrev table : ℕ → Table Right
+    table a = (codes "add", operands end add) ∷ (codes "sub", operands end sub) ∷ (codes "mul", operands end mul) ∷ (codes "div", operands end div) ∷ (codes "rem", operands end rem) ∷ (codes "eq", operands end eq) ∷ (codes "lt", operands end lt)
+        ∷ (codes "nil", nil-of end (type-of end lists)) ∷ (codes "cons", cons-of end) ∷ (codes "call", call-of end room) ∷ (codes "if", if-of end (blk a)) ∷ (codes "region", region-of end (blk a)) ∷ (codes "case", case-of end (blk a)) ∷ []
+
+    abbrev alone : Reader Right
+    alone ts = then (atom-of end ts) λ a. give (atom a)
+
+    meet : (a : ℕ) (w : List ℕ) (p : ℕ) (K : ℕ → Reader Right) → find w (table a) ≡ Some K → {ts : List Lexeme} {y : Right} {is js : List Spelled} → Fitted ts (word-at p w ∷ is)
+        → ((left : List Lexeme) → Fitted left is → suc (length left) ≤ length ts → Reads (K p) left y js) → Reads (rgt a) ts y js
+    meet a w p K e m go = chain-meets (table a) alone w p K e m go
+
+    oper-word : (a : ℕ) (o : Op) → find (op-word o) (table a) ≡ Some (operands end o)
+    oper-word a add = refl
+    oper-word a sub = refl
+    oper-word a mul = refl
+    oper-word a div = refl
+    oper-word a rem = refl
+    oper-word a eq = refl
+    oper-word a lt = refl
+
+    enter : (b : Block) (a d : ℕ) → a + d ≡ suc blocks
+        → ((a' : ℕ) → a' + d ≡ blocks → (ts : List Lexeme) (js : List Spelled) → length ts < room → Fitted ts (spell-inside d b js) → Reads (inside end (rgt a') room) ts b js)
+        → (ts : List Lexeme) (js : List Spelled) → length ts < room → Fitted ts (spell-block d b js) → Reads (blk a) ts b js
+    enter b zero d e go ts js h m = absurd (let k = leb-true d blocks (shallows-first blocks lists (block-at d) (spell-inside d b js) (m .fine) .0) in omega arith)
+    enter b (suc a) d e go ts js h m = entry-meets (block-at d) Mark (codes "{") (λ t h. h) (λ _. inside end (rgt a) room) _ m (λ p t _ _ left m k. go a (omega arith) left js (omega arith) m)
+
+    mutual
+      right-read : (r : Right) (a d : ℕ) → a + d ≡ blocks → (ts : List Lexeme) (js : List Spelled) → length ts < room → Fitted ts (spell-right d r js) → Reads (rgt a) ts r js
+      right-read (atom x) a d e ts js h m = chain-passes (table a) alone x js m (both _ (atom-read x ts js m) (λ left m h. done (atom x) left _ m))
+      right-read (oper p o x y) a d e ts js h m = meet a (op-word o) p (operands end o) (oper-word a o) m (λ left m h. both _ (atom-read x left _ m) (λ left m h. both _ (atom-read y left _ m) (λ left m h. done (oper p o x y) left _ m)))
+      right-read (nil p r T) a d e ts js h m = meet a (codes "nil") p (nil-of end (type-of end lists)) refl m (λ left m h.
+          then-word Mark (codes "@") m (λ _ left m h. both _ (name-read r left _ m) (λ left m h. then-word Mark (codes "(") m (λ _ left m h. both _ (type-read lists 1 T left _ (omega arith) m) (λ left m h. then-word Mark (codes ")") m (λ _ left m h. done (nil p r T) left _ m))))))
+      right-read (cons p r x y) a d e ts js h m = meet a (codes "cons") p (cons-of end) refl m (λ left m h.
+          then-word Mark (codes "@") m (λ _ left m h. both _ (name-read r left _ m) (λ left m h. then-word Mark (codes "(") m (λ _ left m h. both _ (atom-read x left _ m) (λ left m h.
+            then-word Mark (codes ",") m (λ _ left m h. both _ (atom-read y left _ m) (λ left m h. then-word Mark (codes ")") m (λ _ left m h. done (cons p r x y) left _ m))))))))
+      right-read (call p g rs xs) a d e ts js h m = meet a (codes "call") p (call-of end room) refl m (λ left m h1. both _ (name-read g left _ m) (λ left m h2.
+          both _ (regions-read room rs left _ (omega arith) m) (λ left m h3. both _ (elements-read spell-atom (atom-of end) atom-read atom-apart room xs left _ (omega arith) m) (λ left m h. done (call p g rs xs) left _ m))))
+      right-read (test p x b c) a d e ts js h m = meet a (codes "if") p (if-of end (blk a)) refl m (λ left m h1. both _ (atom-read x left _ m) (λ left m h2.
+          both _ (enter b a (suc d) (omega arith) (λ a' e' ts js h m. inside-read b a' (suc d) room e' ts js h (omega arith) m) left _ (omega arith) m) (λ left m h3.
+            then-word Keyword (codes "else") m (λ _ left m h4. both _ (enter c a (suc d) (omega arith) (λ a' e' ts js h m. inside-read c a' (suc d) room e' ts js h (omega arith) m) left _ (omega arith) m) (λ left m h. done (test p x b c) left _ m)))))
+      right-read (region p r b) a d e ts js h m = meet a (codes "region") p (region-of end (blk a)) refl m (λ left m h1. both _ (name-read r left _ m) (λ left m h2.
+          both _ (enter b a (suc d) (omega arith) (λ a' e' ts js h m. inside-read b a' (suc d) room e' ts js h (omega arith) m) left _ (omega arith) m) (λ left m h. done (region p r b) left _ m)))
+      right-read (split p x b y z c) a d e ts js h m = meet a (codes "case") p (case-of end (blk a)) refl m (λ left m h1. both _ (atom-read x left _ m) (λ left m h2.
+          both _ (enter b a (suc d) (omega arith) (λ a' e' ts js h m. inside-read b a' (suc d) room e' ts js h (omega arith) m) left _ (omega arith) m) (λ left m h3.
+            then-word Keyword (codes "else") m (λ _ left m h4. both _ (name-read y left _ m) (λ left m h5. both _ (name-read z left _ m) (λ left m h6.
+              both _ (enter c a (suc d) (omega arith) (λ a' e' ts js h m. inside-read c a' (suc d) room e' ts js h (omega arith) m) left _ (omega arith) m) (λ left m h. done (split p x b y z c) left _ m)))))))
+
+      inside-read : (b : Block) (a d n : ℕ) → a + d ≡ blocks → (ts : List Lexeme) (js : List Spelled) → length ts < n → n ≤ room → Fitted ts (spell-inside d b js) → Reads (inside end (rgt a) n) ts b js
+      inside-read (last x) a d zero e ts js h k m = absurd (omega arith)
+      inside-read (last x) a d (suc n) e ts js h k m =
+          pass-atom Keyword (codes "let") (λ _. let-of end (rgt a) (inside end (rgt a) n)) x _ (λ _. refl) (λ _. refl) m (pass-atom Keyword (codes "print") (print-of end (inside end (rgt a) n)) x _ (λ _. refl) (λ _. refl) m
+            (both _ (atom-read x ts _ m) (λ left m h. then-word Mark (codes "}") m (λ _ left m h. done (last x) left _ m))))
+      inside-read (bind x r b) a d zero e ts js h k m = absurd (omega arith)
+      inside-read (bind x r b) a d (suc n) e ts js h k m = word-meets Keyword (codes "let") (λ _. let-of end (rgt a) (inside end (rgt a) n)) _ m (λ _ left m h1. both _ (name-read x left _ m) (λ left m h2.
+          then-word Mark (codes "=") m (λ _ left m h3. both _ (right-read r a d e left _ (omega arith) m) (λ left m h4. then-word Mark (codes ";") m (λ _ left m h5.
+            both _ (inside-read b a d n e left _ (omega arith) (omega arith) m) (λ left m h. done (bind x r b) left _ m))))))
+      inside-read (print p x b) a d zero e ts js h k m = absurd (omega arith)
+      inside-read (print p x b) a d (suc n) e ts js h k m = passes Keyword (codes "let") (λ _. let-of end (rgt a) (inside end (rgt a) n)) (first-at m) refl
+          (place-meets (codes "print") (print-of end (inside end (rgt a) n)) _ p m (λ left m h1. both _ (atom-read x left _ m) (λ left m h2. then-word Mark (codes ";") m (λ _ left m h3.
+            both _ (inside-read b a d n e left _ (omega arith) (omega arith) m) (λ left m h. done (print p x b) left _ m)))))
+
+    param-read : (q : Param) (ts : List Lexeme) (js : List Spelled) → Fitted ts (spell-param q js) → Reads (param-of end lists) ts q js
+    param-read q ts js m = both _ (name-read (q .name) ts _ m) (λ left m h. then-word Mark (codes ":") m (λ _ left m h. both _ (type-read lists 1 (q .type) left _ (omega arith) m) (λ left m h. done q left _ m)))
+
+    pub fun-read : (g : Fun) (ts : List Lexeme) (js : List Spelled) → length ts < room → Fitted ts (spell-fun g js) → Reads (fun-of end room lists blocks) ts g js
+    fun-read g ts js h m = then-word Keyword (codes "fun") m (λ _ left m h1. both _ (name-read (g .name) left _ m) (λ left m h2. both _ (regions-read room (g .regions) left _ (omega arith) m) (λ left m h3.
+        both _ (elements-read spell-param (param-of end lists) param-read param-apart room (g .params) left _ (omega arith) m) (λ left m h4. then-word Mark (codes ":") m (λ _ left m h5.
+          both _ (type-read lists 1 (g .result) left _ (omega arith) m) (λ left m h6.
+            both _ (enter (g .body) blocks 1 (omega arith) (λ a' e' ts js h m. inside-read (g .body) a' 1 room e' ts js h (omega arith) m) left _ (omega arith) m) (λ left m h. done g left _ m)))))))

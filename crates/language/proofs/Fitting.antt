@@ -35,7 +35,7 @@ kind-back Mark = refl
 pub same-kind : (j k : Kind) → kind-number j ≡ kind-number k → j ≡ k
 same-kind j k e = sym (kind-back j) ∙ ap kind-from e ∙ kind-back k
 
-same-is : (v w : List ℕ) → same-bytes v w ≡ true → v ≡ w
+pub same-is : (v w : List ℕ) → same-bytes v w ≡ true → v ≡ w
 same-is [] [] e = refl
 same-is [] (b ∷ w) e = false-true e
 same-is (a ∷ v) [] e = false-true e
