@@ -104,16 +104,16 @@ module _ (end blocks lists : ℕ) where
   place-meets w K S p {ts} {y} {is} {js} m go = entry-meets (word-at p w) Keyword w (λ t h. h .1) K S m
       (λ q t h e. subst (λ o. (left : List Lexeme) → Fitted left is → suc (length left) ≤ length ts → Reads (K o) left y js) (sym (h .0) ∙ e) go)
 
-  -- a word that has to stand there, and what is behind it
-  then-word : {A : Type 0} (k : Kind) (w : List ℕ) {K : ℕ → Reader A} {ts : List Lexeme} {y : A} {is js : List Spelled} → Fitted ts (word k w ∷ is)
-      → ((p : ℕ) (left : List Lexeme) → Fitted left is → suc (length left) ≤ length ts → Reads (K p) left y js) → Reads (λ ts. then (on end k w give (refuse end 6) ts) K) ts y js
-  then-word k w {K} {y = y} {is} {js} m go = by (m .fit) (m .fine) go
-    where
-      by : {ts : List Lexeme} → Matches ts (word k w ∷ is) → shallows blocks lists (word k w ∷ is) ≡ true
-          → ((p : ℕ) (left : List Lexeme) → Fitted left is → suc (length left) ≤ length ts → Reads (K p) left y js) → Reads (λ ts. then (on end k w give (refuse end 6) ts) K) ts y js
-      by (more {t = t} {ts = ts} h m) s go =
-          let r = go (t .place) ts (record { fit = m; fine = s }) (omega arith) in
-          record { left = r .left; answer = ap (λ o. then o K) (meets end k w give (refuse end 6) (t ∷ ts) (starts-self k w t ts h)) ∙ r .answer; fit = r .fit; fine = r .fine; shorter = omega (arith, r .shorter) }
+  -- a word that has to stand there, and what is behind it: fewer tokens are left
+  module _ {A : Type 0} (k : Kind) (w : List ℕ) {K : ℕ → Reader A} {y : A} {is js : List Spelled} where
+    behind-word : {ts : List Lexeme} → Matches ts (word k w ∷ is) → shallows blocks lists (word k w ∷ is) ≡ true
+        → ((p : ℕ) (left : List Lexeme) → Fitted left is → suc (length left) ≤ length ts → Reads (K p) left y js) → (r : Reads (λ ts. then (on end k w give (refuse end 6) ts) K) ts y js) × (length (r .left) < length ts)
+    behind-word (more {t = t} {ts = ts} h m) s go =
+        let r = go (t .place) ts (record { fit = m; fine = s }) (omega arith) in
+        (record { left = r .left; answer = ap (λ o. then o K) (meets end k w give (refuse end 6) (t ∷ ts) (starts-self k w t ts h)) ∙ r .answer; fit = r .fit; fine = r .fine; shorter = omega (arith, r .shorter) }, omega (arith, r .shorter))
+
+    then-word : {ts : List Lexeme} → Fitted ts (word k w ∷ is) → ((p : ℕ) (left : List Lexeme) → Fitted left is → suc (length left) ≤ length ts → Reads (K p) left y js) → Reads (λ ts. then (on end k w give (refuse end 6) ts) K) ts y js
+    then-word m go = behind-word (m .fit) (m .fine) go .0
 
   -- another word stands there
   passes : {A : Type 0} {j : Kind} {v : List ℕ} (k : Kind) (w : List ℕ) (K : ℕ → Reader A) {S : Reader A} {ts : List Lexeme} {y : A} {js : List Spelled}
@@ -307,8 +307,8 @@ module _ (end blocks lists : ℕ) where
     param-read : (q : Param) (ts : List Lexeme) (js : List Spelled) → Fitted ts (spell-param q js) → Reads (param-of end lists) ts q js
     param-read q ts js m = both _ (name-read (q .name) ts _ m) (λ left m h. then-word Mark (codes ":") m (λ _ left m h. both _ (type-read lists 1 (q .type) left _ (omega arith) m) (λ left m h. done q left _ m)))
 
-    pub fun-read : (g : Fun) (ts : List Lexeme) (js : List Spelled) → length ts < room → Fitted ts (spell-fun g js) → Reads (fun-of end room lists blocks) ts g js
-    fun-read g ts js h m = then-word Keyword (codes "fun") m (λ _ left m h1. both _ (name-read (g .name) left _ m) (λ left m h2. both _ (regions-read room (g .regions) left _ (omega arith) m) (λ left m h3.
+    pub fun-read : (g : Fun) (ts : List Lexeme) (js : List Spelled) → length ts < room → Fitted ts (spell-fun g js) → (r : Reads (fun-of end room lists blocks) ts g js) × (length (r .left) < length ts)
+    fun-read g ts js h m = behind-word Keyword (codes "fun") (m .fit) (m .fine) (λ _ left m h1. both _ (name-read (g .name) left _ m) (λ left m h2. both _ (regions-read room (g .regions) left _ (omega arith) m) (λ left m h3.
         both _ (elements-read spell-param (param-of end lists) param-read param-apart room (g .params) left _ (omega arith) m) (λ left m h4. then-word Mark (codes ":") m (λ _ left m h5.
           both _ (type-read lists 1 (g .result) left _ (omega arith) m) (λ left m h6.
             both _ (enter (g .body) blocks 1 (omega arith) (λ a' e' ts js h m. inside-read (g .body) a' 1 room e' ts js h (omega arith) m) left _ (omega arith) m) (λ left m h. done g left _ m)))))))

@@ -3,3 +3,4 @@ pub mod Told
 pub mod Parts
 pub mod Blocks
 pub mod Complete
+pub mod Scripts
