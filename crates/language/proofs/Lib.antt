@@ -4,3 +4,4 @@ pub mod Parts
 pub mod Blocks
 pub mod Complete
 pub mod Scripts
+pub mod Places

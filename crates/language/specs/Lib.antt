@@ -3,3 +3,4 @@ pub mod Verdict
 pub mod Spelling
 pub mod Nesting
 pub mod Reading
+pub mod ReadingLaws
