@@ -5,3 +5,4 @@ pub mod Blocks
 pub mod Complete
 pub mod Scripts
 pub mod Places
+pub mod Readings

@@ -139,7 +139,7 @@ module _ (f : Frame) (F' : Reader Fun) where
             by none e = absurd (cons-nil (sym e))
             by (more h m) e = omega arith
 
-  whole : {F : Reader Fun} {room : ℕ} → Law f room F F' (Spelt spell-fun) → (n n' : ℕ) → n ≤ n' → n ≤ room → (ts : List Lexeme) → Whole n n' ts (funs (f .end) F n ts)
+  pub whole : {F : Reader Fun} {room : ℕ} → Law f room F F' (Spelt spell-fun) → (n n' : ℕ) → n ≤ n' → n ≤ room → (ts : List Lexeme) → Whole n n' ts (funs (f .end) F n ts)
   whole law zero n' h k ts = ends (omega arith)
   whole law (suc n) zero h k ts = absurd (omega arith)
   whole {F} {room} law (suc n) (suc n') h k ts = go (F ts) (law .told ts) (whole law n n' (omega arith) (omega arith))
