@@ -4,3 +4,4 @@ pub mod Spelling
 pub mod Nesting
 pub mod Reading
 pub mod ReadingLaws
+pub mod ReadingExamples
