@@ -88,7 +88,7 @@ module _ {f : Frame} {T T' : Reader Ty} {Q Q' : Reader Block} (d room room' : �
   operands-law : (o : Op) (p : ℕ) → Law f room (operands (f .end) o p) (operands (f .end) o p) (Seq A (λ a. Seq A (λ b. Just (oper p o a b))))
   operands-law o p = then-law atom-law λ a. then-law atom-law λ b. give-law (oper p o a b)
 
-  right-law : Law f room (right-of (f .end) room T Q) (right-of (f .end) room' T' Q') (Spelt (spell-right d))
+  pub right-law : Law f room (right-of (f .end) room T Q) (right-of (f .end) room' T' Q') (Spelt (spell-right d))
   right-law =
       either (codes "add") (oper-into d add) (operands-law add)
       (either (codes "sub") (oper-into d sub) (operands-law sub)
@@ -141,7 +141,7 @@ module _ (d : ℕ) where
       record { value = l .value; entries = block-at d ∷ l .entries; tokens = tok Mark (codes "{") ∷ l .tokens; spelled = block-into (l .value) (l .entries) (l .spelled); fit = more (refl, refl) (l .fit) }
 
 module _ {f : Frame} {X X' : Reader Right} (d room : ℕ) (right : Law f room X X' (Spelt (spell-right d))) where
-  inside-law : (n n' : ℕ) → n ≤ n' → n ≤ room → Law f n (inside (f .end) X n) (inside (f .end) X' n') (Spelt (spell-inside d))
+  pub inside-law : (n n' : ℕ) → n ≤ n' → n ≤ room → Law f n (inside (f .end) X n) (inside (f .end) X' n') (Spelt (spell-inside d))
   inside-law zero n' h k = record { told = λ ts. spent (omega arith); live = inside-live d }
   inside-law (suc n) zero h k = absurd (omega arith)
   inside-law (suc n) (suc n') h k =
@@ -170,10 +170,10 @@ fun-into _ _ (seq (after just) (seq h (seq k (seq l (seq (after just) (seq m (se
 
 -- the second readers have more room and allow at least as many lists
 module _ {f : Frame} (room room' lists' : ℕ) (more-room : room ≤ room') (more-lists : f .lists ≤ lists') (same-lists : f .Same → f .lists ≡ lists') where
-  types-law : (n : ℕ) → Law f n (type-of (f .end) (f .lists)) (type-of (f .end) lists') (Spelt (spell-type 1))
+  pub types-law : (n : ℕ) → Law f n (type-of (f .end) (f .lists)) (type-of (f .end) lists') (Spelt (spell-type 1))
   types-law n = type-law (f .lists) lists' 1 more-lists same-lists (omega arith)
 
-  block-law : (b b' d : ℕ) → b ≤ b' → (f .Same → b ≡ b') → b + d ≡ suc (f .blocks) → Law f room (block-of (f .end) room (f .lists) b) (block-of (f .end) room' lists' b') (Spelt (spell-block d))
+  pub block-law : (b b' d : ℕ) → b ≤ b' → (f .Same → b ≡ b') → b + d ≡ suc (f .blocks) → Law f room (block-of (f .end) room (f .lists) b) (block-of (f .end) room' lists' b') (Spelt (spell-block d))
   block-law zero zero d h same e = sunk room d (omega arith) (λ s p ts. refl)
   block-law zero (suc b') d h same e =
       sunk room {X = λ _. inside (f .end) (right-of (f .end) room' (type-of (f .end) lists') (block-of (f .end) room' lists' b')) room'} d (omega arith) (λ s p ts. absurd (let z = same s in omega arith))

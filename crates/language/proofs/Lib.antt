@@ -6,3 +6,4 @@ pub mod Complete
 pub mod Scripts
 pub mod Places
 pub mod Readings
+pub mod Rooms
