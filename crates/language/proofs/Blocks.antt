@@ -1,22 +1,18 @@
 -- What the readers of right sides, blocks and functions tell.
-use mathlib.Core.Path.{_≡_, refl, sym, ap, _∙_, subst}
-use mathlib.Core.List.{List, [], _∷_, _++_, append-assoc}
-use mathlib.Core.Logic.{_⊎_, inl, inr}
+use mathlib.Core.Path.{_≡_, refl, sym, ap}
+use mathlib.Core.List.{List, [], _∷_, append-assoc}
 use Prim.Native.Nat.{ℕ, zero, suc, _+_, _≤_, _<_}
 use native.Mathlib.Omega.{arith}
 use lib.Chars.{codes}
 use borrow.Author.Tests.{le-leb, lt-leb}
-use Rattle.std.specs.declared.result.Result.{Result}
-use Rattle.std.specs.declared.result.Result.the-variants.{Ok, Err}
-use Rattle.lexing.specs.declared.token.Kind.{Kind}
-use Rattle.lexing.specs.declared.token.Kind.the-variants.{Name, Keyword, Numeral, Mark}
+use Rattle.std.specs.declared.result.Result.the-variants.{Err}
+use Rattle.lexing.specs.declared.token.Kind.the-variants.{Name, Keyword, Mark}
 use Rattle.lexing.specs.Tokens.{Lexeme}
-use Rattle.language.specs.Syntax.{Ident, Ty, int, list, Atom, var, num, Op, add, sub, mul, div, rem, eq, lt, Right, atom, oper, nil, cons, call, test, region, split, Block, last, bind, print, Param, Fun}
-use Rattle.language.specs.Spelling.{Spelled, word-at, block-at, key, mark, name, Is, Fits, Matches, none, more, op-word, spell-name, spell-atom, spell-regions, spell-elements, spell-type, spell-right, spell-inside, spell-block, spell-param, spell-fun}
-use Rattle.language.specs.Nesting.{shallow, shallows}
-use Rattle.language.specs.Reading.{Reader, refuse, then, give, on, too-deep, atom-of, operands, nil-of, cons-of, call-of, if-of, region-of, case-of, right-of, inside, block-of, param-of, fun-of, type-of}
-use Rattle.language.proofs.Told.{Lang, Seq, seq, Just, just, After, after, Spelt, Live, Frame, Law, Told, spent, widen, roomless, give-law, then-law, refuse-law, on-to, forbid-to}
-use Rattle.language.proofs.Parts.{name-law, atom-law, atom-live, mark-law, key-law, spell-head, regions-law, elements-law, type-law, tok}
+use Rattle.language.specs.Syntax.{Ident, Ty, Atom, var, num, Op, add, sub, mul, div, rem, eq, lt, Right, atom, oper, nil, cons, call, test, region, split, Block, last, bind, print, Param, Fun}
+use Rattle.language.specs.Spelling.{Spelled, word-at, block-at, key, mark, name, none, more, op-word, spell-name, spell-atom, spell-elements, spell-type, spell-right, spell-inside, spell-block, spell-param, spell-fun}
+use Rattle.language.specs.Reading.{Reader, refuse, on, too-deep, operands, right-of, inside, block-of, param-of, fun-of, type-of}
+use Rattle.language.proofs.Told.{Lang, Seq, seq, Just, just, After, after, Spelt, Live, Frame, Law, spent, widen, roomless, give-law, then-law, refuse-law, on-to, forbid-to}
+use Rattle.language.proofs.Parts.{name-law, atom-law, mark-law, key-law, spell-head, regions-law, elements-law, type-law, tok}
 
 abbrev N : Lang Ident
 N = Spelt spell-name
@@ -146,9 +142,9 @@ module _ {f : Frame} {X X' : Reader Right} (d room : ℕ) (right : Law f room X 
   inside-law (suc n) zero h k = absurd (omega arith)
   inside-law (suc n) (suc n') h k =
       on-to Keyword (codes "let") (Spelt (spell-inside d)) (inside-never d) {room = n} (omega arith) (λ _. key (codes "let")) (λ t is. is) (λ _. refl) (let-into d)
-        (λ _. then-law name-law λ x. then-law (mark-law (codes "=")) λ _. then-law (roomless {room = room} (omega arith) right) λ r. then-law (mark-law (codes ";")) λ _. then-law (inside-law n n' (omega arith) (omega arith)) λ b. give-law (bind x r b))
+      (λ _. then-law name-law λ x. then-law (mark-law (codes "=")) λ _. then-law (roomless {room = room} (omega arith) right) λ r. then-law (mark-law (codes ";")) λ _. then-law (inside-law n n' (omega arith) (omega arith)) λ b. give-law (bind x r b))
       (on-to Keyword (codes "print") (Spelt (spell-inside d)) (inside-never d) {room = n} (omega arith) (λ p. word-at p (codes "print")) (λ t is. (refl, is)) (λ _. refl) (print-into d)
-        (λ p. then-law atom-law λ a. then-law (mark-law (codes ";")) λ _. then-law (inside-law n n' (omega arith) (omega arith)) λ b. give-law (print p a b))
+      (λ p. then-law atom-law λ a. then-law (mark-law (codes ";")) λ _. then-law (inside-law n n' (omega arith) (omega arith)) λ b. give-law (print p a b))
       (widen (last-into d) (then-law atom-law λ a. then-law (mark-law (codes "}")) λ _. give-law (last a))))
 
 -- a block that nests too deep
@@ -165,7 +161,7 @@ param-some p js e = let z : _≡_ {A = ℕ} 0 1 = cc in omega arith
 
 fun-into : (g : Fun) (is : List Spelled)
     → Seq (K (codes "fun")) (λ _. Seq N (λ x. Seq (Spelt spell-head) (λ rs. Seq (Spelt (spell-elements spell-param)) (λ ps. Seq (! (codes ":")) (λ _. Seq (Spelt (spell-type 1)) (λ T. Seq (Spelt (spell-block 1)) (λ b.
-        Just (record { name = x; regions = rs; params = ps; result = T; body = b })))))))) g is → Spelt spell-fun g is
+    Just (record { name = x; regions = rs; params = ps; result = T; body = b })))))))) g is → Spelt spell-fun g is
 fun-into _ _ (seq (after just) (seq h (seq k (seq l (seq (after just) (seq m (seq n just))))))) js = simp append-assoc (simp (h, k, l, m, n))
 
 -- the second readers have more room and allow at least as many lists
@@ -180,8 +176,8 @@ module _ {f : Frame} (room room' lists' : ℕ) (more-room : room ≤ room') (mor
   block-law (suc b) zero d h same e = absurd (omega arith)
   block-law (suc b) (suc b') d h same e =
       on-to Mark (codes "{") (Spelt (spell-block d)) (block-never d) {room = room} (omega arith) (λ _. block-at d) (λ t is. is) (λ _. le-leb d (f .blocks) (omega arith)) (λ _. block-into d)
-        (λ _. inside-law d room (right-law d room room' more-room types-law (block-law b b' (suc d) (omega arith) (λ s. let z = same s in omega arith) (omega arith))) room room' more-room (omega arith))
-        (refuse-law (block-live d))
+      (λ _. inside-law d room (right-law d room room' more-room types-law (block-law b b' (suc d) (omega arith) (λ s. let z = same s in omega arith) (omega arith))) room room' more-room (omega arith))
+      (refuse-law (block-live d))
 
   param-law : (n : ℕ) → Law f n (param-of (f .end) (f .lists)) (param-of (f .end) lists') (Spelt spell-param)
   param-law n = widen param-into (then-law name-law λ x. then-law (mark-law (codes ":")) λ _. then-law (types-law n) λ T. give-law (record { name = x; type = T }))

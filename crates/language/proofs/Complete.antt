@@ -1,7 +1,7 @@
 -- A spelling within the limits is read as what it spells.
 use mathlib.Core.Path.{_≡_, refl, sym, ap, _∙_, subst}
 use mathlib.Core.Bool.{Bool, true, false}
-use mathlib.Core.List.{List, [], _∷_, _++_}
+use mathlib.Core.List.{List, [], _∷_}
 use Prim.Native.Nat.{ℕ, zero, suc, _+_, _≤_, _<_}
 use native.Mathlib.Omega.{arith}
 use lib.Chars.{codes}
@@ -10,19 +10,16 @@ use lib.ListN.{length}
 use borrow.Author.Tests.{leb-true, eq-eqb}
 use Rattle.std.specs.declared.option.Option.{Option}
 use Rattle.std.specs.declared.option.Option.the-variants.{Some, None}
-use Rattle.std.specs.declared.result.Result.{Result}
-use Rattle.std.specs.declared.result.Result.the-variants.{Ok, Err}
+use Rattle.std.specs.declared.result.Result.the-variants.{Ok}
 use Rattle.lexing.specs.declared.token.Kind.{Kind}
 use Rattle.lexing.specs.declared.token.Kind.the-variants.{Name, Keyword, Numeral, Mark}
 use Rattle.lexing.specs.Tokens.{Lexeme, same-bytes}
 use Rattle.lexing.specs.Numbers.{kind-number}
-use Rattle.lexing.specs.Numerals.{number-of}
 use Rattle.language.specs.Syntax.{Ident, Ty, int, list, Atom, var, num, Op, add, sub, mul, div, rem, eq, lt, Right, atom, oper, nil, cons, call, test, region, split, Block, last, bind, print, Param, Fun}
-use Rattle.language.specs.Verdict.{Refused}
-use Rattle.language.specs.Spelling.{Spelled, word, word-at, block-at, list-at, name, number, key, mark, Is, Fits, Matches, none, more, op-word, spell-name, spell-atom, spell-commas, spell-regions, spell-elements, spell-list, spell-type, spell-right, spell-inside, spell-block, spell-param, spell-fun, spell}
-use Rattle.language.specs.Nesting.{shallow, shallows}
-use Rattle.language.specs.Reading.{Reader, here, rest, refuse, then, give, starts, on, is-kind, name-in, number-in, atom-in, one, name-of, atom-of, key-of, mark-of, before, closed, commas, bracketed, regions, elements, list-of, type-of, operands, nil-of, cons-of, call-of, if-of, region-of, case-of, right-of, let-of, print-of, last-of, inside, block-of, param-of, fun-of, funs}
-use Rattle.language.proofs.Fitting.{false-true, same-is, tests, starts-of, starts-self, shallows-first}
+use Rattle.language.specs.Spelling.{Spelled, word, word-at, block-at, list-at, name, number, mark, Is, Fits, Matches, more, op-word, spell-name, spell-atom, spell-commas, spell-regions, spell-elements, spell-type, spell-right, spell-inside, spell-block, spell-param, spell-fun, spell}
+use Rattle.language.specs.Nesting.{shallows}
+use Rattle.language.specs.Reading.{Reader, refuse, then, give, starts, on, is-kind, name-in, number-in, atom-in, one, name-of, atom-of, before, commas, bracketed, regions, elements, list-of, type-of, operands, nil-of, cons-of, call-of, if-of, region-of, case-of, right-of, let-of, print-of, inside, block-of, param-of, fun-of}
+use Rattle.language.proofs.Fitting.{same-is, tests, starts-of, starts-self, shallows-first}
 use Rattle.language.proofs.Parts.{none-some}
 use Rattle.language.proofs.Told.{meets, skips}
 
@@ -277,32 +274,32 @@ module _ (end blocks lists : ℕ) where
           then-word Mark (codes "@") m (λ _ left m h. both _ (name-read r left _ m) (λ left m h. then-word Mark (codes "(") m (λ _ left m h. both _ (type-read lists 1 T left _ (omega arith) m) (λ left m h. then-word Mark (codes ")") m (λ _ left m h. done (nil p r T) left _ m))))))
       right-read (cons p r x y) a d e ts js h m = meet a (codes "cons") p (cons-of end) refl m (λ left m h.
           then-word Mark (codes "@") m (λ _ left m h. both _ (name-read r left _ m) (λ left m h. then-word Mark (codes "(") m (λ _ left m h. both _ (atom-read x left _ m) (λ left m h.
-            then-word Mark (codes ",") m (λ _ left m h. both _ (atom-read y left _ m) (λ left m h. then-word Mark (codes ")") m (λ _ left m h. done (cons p r x y) left _ m))))))))
+          then-word Mark (codes ",") m (λ _ left m h. both _ (atom-read y left _ m) (λ left m h. then-word Mark (codes ")") m (λ _ left m h. done (cons p r x y) left _ m))))))))
       right-read (call p g rs xs) a d e ts js h m = meet a (codes "call") p (call-of end room) refl m (λ left m h1. both _ (name-read g left _ m) (λ left m h2.
           both _ (regions-read room rs left _ (omega arith) m) (λ left m h3. both _ (elements-read spell-atom (atom-of end) atom-read atom-apart room xs left _ (omega arith) m) (λ left m h. done (call p g rs xs) left _ m))))
       right-read (test p x b c) a d e ts js h m = meet a (codes "if") p (if-of end (blk a)) refl m (λ left m h1. both _ (atom-read x left _ m) (λ left m h2.
           both _ (enter b a (suc d) (omega arith) (λ a' e' ts js h m. inside-read b a' (suc d) room e' ts js h (omega arith) m) left _ (omega arith) m) (λ left m h3.
-            then-word Keyword (codes "else") m (λ _ left m h4. both _ (enter c a (suc d) (omega arith) (λ a' e' ts js h m. inside-read c a' (suc d) room e' ts js h (omega arith) m) left _ (omega arith) m) (λ left m h. done (test p x b c) left _ m)))))
+          then-word Keyword (codes "else") m (λ _ left m h4. both _ (enter c a (suc d) (omega arith) (λ a' e' ts js h m. inside-read c a' (suc d) room e' ts js h (omega arith) m) left _ (omega arith) m) (λ left m h. done (test p x b c) left _ m)))))
       right-read (region p r b) a d e ts js h m = meet a (codes "region") p (region-of end (blk a)) refl m (λ left m h1. both _ (name-read r left _ m) (λ left m h2.
           both _ (enter b a (suc d) (omega arith) (λ a' e' ts js h m. inside-read b a' (suc d) room e' ts js h (omega arith) m) left _ (omega arith) m) (λ left m h. done (region p r b) left _ m)))
       right-read (split p x b y z c) a d e ts js h m = meet a (codes "case") p (case-of end (blk a)) refl m (λ left m h1. both _ (atom-read x left _ m) (λ left m h2.
           both _ (enter b a (suc d) (omega arith) (λ a' e' ts js h m. inside-read b a' (suc d) room e' ts js h (omega arith) m) left _ (omega arith) m) (λ left m h3.
-            then-word Keyword (codes "else") m (λ _ left m h4. both _ (name-read y left _ m) (λ left m h5. both _ (name-read z left _ m) (λ left m h6.
-              both _ (enter c a (suc d) (omega arith) (λ a' e' ts js h m. inside-read c a' (suc d) room e' ts js h (omega arith) m) left _ (omega arith) m) (λ left m h. done (split p x b y z c) left _ m)))))))
+          then-word Keyword (codes "else") m (λ _ left m h4. both _ (name-read y left _ m) (λ left m h5. both _ (name-read z left _ m) (λ left m h6.
+          both _ (enter c a (suc d) (omega arith) (λ a' e' ts js h m. inside-read c a' (suc d) room e' ts js h (omega arith) m) left _ (omega arith) m) (λ left m h. done (split p x b y z c) left _ m)))))))
 
       inside-read : (b : Block) (a d n : ℕ) → a + d ≡ blocks → (ts : List Lexeme) (js : List Spelled) → length ts < n → n ≤ room → Fitted ts (spell-inside d b js) → Reads (inside end (rgt a) n) ts b js
       inside-read (last x) a d zero e ts js h k m = absurd (omega arith)
       inside-read (last x) a d (suc n) e ts js h k m =
           pass-atom Keyword (codes "let") (λ _. let-of end (rgt a) (inside end (rgt a) n)) x _ (λ _. refl) (λ _. refl) m (pass-atom Keyword (codes "print") (print-of end (inside end (rgt a) n)) x _ (λ _. refl) (λ _. refl) m
-            (both _ (atom-read x ts _ m) (λ left m h. then-word Mark (codes "}") m (λ _ left m h. done (last x) left _ m))))
+          (both _ (atom-read x ts _ m) (λ left m h. then-word Mark (codes "}") m (λ _ left m h. done (last x) left _ m))))
       inside-read (bind x r b) a d zero e ts js h k m = absurd (omega arith)
       inside-read (bind x r b) a d (suc n) e ts js h k m = word-meets Keyword (codes "let") (λ _. let-of end (rgt a) (inside end (rgt a) n)) _ m (λ _ left m h1. both _ (name-read x left _ m) (λ left m h2.
           then-word Mark (codes "=") m (λ _ left m h3. both _ (right-read r a d e left _ (omega arith) m) (λ left m h4. then-word Mark (codes ";") m (λ _ left m h5.
-            both _ (inside-read b a d n e left _ (omega arith) (omega arith) m) (λ left m h. done (bind x r b) left _ m))))))
+          both _ (inside-read b a d n e left _ (omega arith) (omega arith) m) (λ left m h. done (bind x r b) left _ m))))))
       inside-read (print p x b) a d zero e ts js h k m = absurd (omega arith)
       inside-read (print p x b) a d (suc n) e ts js h k m = passes Keyword (codes "let") (λ _. let-of end (rgt a) (inside end (rgt a) n)) (first-at m) refl
           (place-meets (codes "print") (print-of end (inside end (rgt a) n)) _ p m (λ left m h1. both _ (atom-read x left _ m) (λ left m h2. then-word Mark (codes ";") m (λ _ left m h3.
-            both _ (inside-read b a d n e left _ (omega arith) (omega arith) m) (λ left m h. done (print p x b) left _ m)))))
+          both _ (inside-read b a d n e left _ (omega arith) (omega arith) m) (λ left m h. done (print p x b) left _ m)))))
 
     param-read : (q : Param) (ts : List Lexeme) (js : List Spelled) → Fitted ts (spell-param q js) → Reads (param-of end lists) ts q js
     param-read q ts js m = both _ (name-read (q .name) ts _ m) (λ left m h. then-word Mark (codes ":") m (λ _ left m h. both _ (type-read lists 1 (q .type) left _ (omega arith) m) (λ left m h. done q left _ m)))
@@ -310,5 +307,5 @@ module _ (end blocks lists : ℕ) where
     pub fun-read : (g : Fun) (ts : List Lexeme) (js : List Spelled) → length ts < room → Fitted ts (spell-fun g js) → (r : Reads (fun-of end room lists blocks) ts g js) × (length (r .left) < length ts)
     fun-read g ts js h m = behind-word Keyword (codes "fun") (m .fit) (m .fine) (λ _ left m h1. both _ (name-read (g .name) left _ m) (λ left m h2. both _ (regions-read room (g .regions) left _ (omega arith) m) (λ left m h3.
         both _ (elements-read spell-param (param-of end lists) param-read param-apart room (g .params) left _ (omega arith) m) (λ left m h4. then-word Mark (codes ":") m (λ _ left m h5.
-          both _ (type-read lists 1 (g .result) left _ (omega arith) m) (λ left m h6.
-            both _ (enter (g .body) blocks 1 (omega arith) (λ a' e' ts js h m. inside-read (g .body) a' 1 room e' ts js h (omega arith) m) left _ (omega arith) m) (λ left m h. done g left _ m)))))))
+        both _ (type-read lists 1 (g .result) left _ (omega arith) m) (λ left m h6.
+        both _ (enter (g .body) blocks 1 (omega arith) (λ a' e' ts js h m. inside-read (g .body) a' 1 room e' ts js h (omega arith) m) left _ (omega arith) m) (λ left m h. done g left _ m)))))))

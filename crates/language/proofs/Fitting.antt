@@ -1,5 +1,5 @@
 -- Tokens against entries of a spelling: what the test of a word tells, and fits and limits of lists one after the other.
-use mathlib.Core.Path.{_≡_, refl, sym, ap, _∙_, subst}
+use mathlib.Core.Path.{_≡_, refl, sym, ap, _∙_}
 use mathlib.Core.Bool.{Bool, true, false}
 use mathlib.Core.List.{List, [], _∷_, _++_}
 use Prim.Native.Nat.{ℕ, zero, suc}
@@ -10,7 +10,7 @@ use Rattle.lexing.specs.declared.token.Kind.{Kind}
 use Rattle.lexing.specs.declared.token.Kind.the-variants.{End, Name, Keyword, Numeral, Mark}
 use Rattle.lexing.specs.Tokens.{Lexeme, same-bytes}
 use Rattle.lexing.specs.Numbers.{kind-number}
-use Rattle.language.specs.Spelling.{Spelled, Is, Fits, Matches, none, more}
+use Rattle.language.specs.Spelling.{Spelled, Is, Matches, none, more}
 use Rattle.language.specs.Nesting.{shallow, shallows}
 use Rattle.language.specs.Reading.{starts}
 

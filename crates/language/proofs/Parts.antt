@@ -1,29 +1,26 @@
 -- What the readers of the language's parts tell: single tokens, lists and types.
-use mathlib.Core.Path.{_≡_, refl, sym, ap, _∙_, subst}
+use mathlib.Core.Path.{_≡_, refl, sym, ap, subst}
 use mathlib.Core.Bool.{Bool, true, false}
-use mathlib.Core.List.{List, [], _∷_, _++_, append-assoc, append-nil}
-use mathlib.Core.Logic.{_⊎_, inl, inr}
+use mathlib.Core.List.{List, [], _∷_, _++_, append-assoc}
+use mathlib.Core.Logic.{inl, inr}
 use Prim.Native.Nat.{ℕ, zero, suc, _+_, _≤_, _<_}
 use native.Mathlib.Omega.{arith}
 use lib.Chars.{codes}
 use lib.IntN.{ℤ}
-use lib.ListN.{length}
 use borrow.Author.Tests.{eqb-true, le-leb, lt-leb}
 use Rattle.std.specs.declared.option.Option.{Option}
 use Rattle.std.specs.declared.option.Option.the-variants.{Some, None}
-use Rattle.std.specs.declared.result.Result.{Result}
 use Rattle.std.specs.declared.result.Result.the-variants.{Ok, Err}
 use Rattle.lexing.specs.declared.token.Kind.{Kind}
 use Rattle.lexing.specs.declared.token.Kind.the-variants.{Name, Keyword, Numeral, Mark}
 use Rattle.lexing.specs.Tokens.{Lexeme}
 use Rattle.lexing.specs.Numerals.{number-of}
 use Rattle.language.specs.Syntax.{Ident, Ty, int, list, Atom, var, num}
-use Rattle.language.specs.Verdict.{Refused}
-use Rattle.language.specs.Spelling.{Spelled, word, word-at, block-at, list-at, name, number, key, mark, Is, Fits, Matches, none, more, spell-name, spell-atom, spell-commas, spell-regions, spell-elements, spell-type}
+use Rattle.language.specs.Spelling.{Spelled, list-at, name, number, key, mark, Fits, none, more, spell-name, spell-atom, spell-commas, spell-regions, spell-elements, spell-type}
 use Rattle.language.specs.Nesting.{shallow, shallows}
-use Rattle.language.specs.Reading.{Reader, here, refuse, then, give, on, is-kind, name-in, number-in, atom-in, one, name-of, atom-of, key-of, mark-of, commas, regions, elements, list-of, too-deep, type-of}
-use Rattle.language.proofs.Fitting.{false-true, same-kind, matches-append}
-use Rattle.language.proofs.Told.{Lang, Alike, both-end, both-at, Seq, seq, Just, just, After, after, Either, Spelt, Live, never-after, Frame, Told, read, stuck, deep, spent, Law, widen, roomless, give-law, then-law, refuse-law, on-law, demand-law, on-to, forbid-to}
+use Rattle.language.specs.Reading.{Reader, here, refuse, give, on, is-kind, name-in, number-in, atom-in, one, name-of, atom-of, key-of, mark-of, commas, regions, elements, list-of, too-deep, type-of}
+use Rattle.language.proofs.Fitting.{same-kind, matches-append}
+use Rattle.language.proofs.Told.{Lang, Alike, both-end, both-at, Seq, seq, Just, just, After, after, Either, Spelt, Live, Frame, Told, read, stuck, spent, Law, widen, give-law, then-law, refuse-law, on-law, demand-law, on-to, forbid-to}
 
 pub none-some : {A B : Type 0} {x : A} → None ≡ Some x → B
 none-some e = absurd (let z : _≡_ {A = ℕ} 0 1 = cc in omega arith)
@@ -44,21 +41,49 @@ module _ {f : Frame} {A : Type 0} {room : ℕ} (wanted : Lexeme → Option A) (s
     where
       R : Reader A
       R = one (f .end) wanted
+
       at-end : (other : List Lexeme) → Alike [] other → R other ≡ Err (record { number = 6; place = here (f .end) other })
       at-end _ both-end = refl
+
       at-other : (t : Lexeme) (ts : List Lexeme) → wanted t ≡ None → (other : List Lexeme) → Alike (t ∷ ts) other → R other ≡ Err (record { number = 6; place = here (f .end) other })
       at-other t ts e _ both-at = rw (e, one)
+
       by : (t : Lexeme) (ts : List Lexeme) (o : Option A) → wanted t ≡ o → Told f room R (Spelt spell) (t ∷ ts) (elim o [ Some x ↦ Ok (x, ts) | None ↦ refuse (f .end) 6 (t ∷ ts) ])
       by t ts (Some x) e =
           let w = wants t x e in
           read (record { used = t ∷ []; entries = w .entry ∷ []; split = refl; spelled = w .is; fit = more (w .fits) none; fine = rw (w .flat, shallows); again = λ other. rw (e, one) })
       by t ts None e = stuck (record {
-          used = []; left = t ∷ ts; value = l .value; entries = []; next = l .entries; tokens = l .tokens; split = refl; at = refl
-        ; spelled = l .spelled; fit = none; fine = refl; goes-on = l .fit; again = at-other t ts e })
+        used = [];
+        left = t ∷ ts;
+        value = l .value;
+        entries = [];
+        next = l .entries;
+        tokens = l .tokens;
+        split = refl;
+        at = refl;
+        spelled = l .spelled;
+        fit = none;
+        fine = refl;
+        goes-on = l .fit;
+        again = at-other t ts e;
+      })
+
       go : (ts : List Lexeme) → Told f room R (Spelt spell) ts (R ts)
       go [] = stuck (record {
-          used = []; left = []; value = l .value; entries = []; next = l .entries; tokens = l .tokens; split = refl; at = refl
-        ; spelled = l .spelled; fit = none; fine = refl; goes-on = l .fit; again = at-end })
+        used = [];
+        left = [];
+        value = l .value;
+        entries = [];
+        next = l .entries;
+        tokens = l .tokens;
+        split = refl;
+        at = refl;
+        spelled = l .spelled;
+        fit = none;
+        fine = refl;
+        goes-on = l .fit;
+        again = at-end;
+      })
       go (t ∷ ts) = by t ts (wanted t) refl
 
 name-is : (t : Lexeme) (x : Ident) → name-in t ≡ Some x → Fits (name x) t
@@ -79,8 +104,12 @@ number-is t n e = by (is-kind Numeral t) refl e
 
 name-live : Live (Spelt spell-name)
 name-live = record {
-    value = record { place = 0; name = [] }; entries = name (record { place = 0; name = [] }) ∷ []; tokens = record { kind = Name; place = 0; bytes = [] } ∷ []
-  ; spelled = λ js. refl; fit = more (refl, (refl, refl)) none }
+  value = record { place = 0; name = [] };
+  entries = name (record { place = 0; name = [] }) ∷ [];
+  tokens = record { kind = Name; place = 0; bytes = [] } ∷ [];
+  spelled = λ js. refl;
+  fit = more (refl, (refl, refl)) none;
+}
 
 pub atom-live : Live (Spelt spell-atom)
 unfolding name-live
@@ -94,7 +123,7 @@ module _ {f : Frame} where
   atom-is t a e = by (name-in t) refl (number-in t) refl e
     where
       by : (o : Option Ident) → name-in t ≡ o → (m : Option ℤ) → number-in t ≡ m
-        → _≡_ {A = Option Atom} (elim o [ Some x ↦ Some (var x) | None ↦ elim m [ Some n ↦ Some (num (t .place) n) | None ↦ None ] ]) (Some a) → Wanted f spell-atom t a
+          → _≡_ {A = Option Atom} (elim o [ Some x ↦ Some (var x) | None ↦ elim m [ Some n ↦ Some (num (t .place) n) | None ↦ None ] ]) (Some a) → Wanted f spell-atom t a
       by (Some x) h m k e = let z : var x ≡ a = cc in subst (Wanted f spell-atom t) z (record { entry = name x; is = λ js. refl; fits = name-is t x h; flat = refl })
       by None h (Some n) k e = let z : num (t .place) n ≡ a = cc in subst (Wanted f spell-atom t) z (record { entry = number (t .place) n; is = λ js. refl; fits = number-is t n k; flat = refl })
       by None h None k e = none-some e
@@ -132,8 +161,12 @@ module _ {A : Type 0} (spell : A → List Spelled → List Spelled) (close : Lis
 
   commas-live : Live (Spelt spell) → Live (Closed spell close)
   commas-live l = record {
-      value = l .value ∷ []; entries = l .entries ++ (mark close ∷ []); tokens = l .tokens ++ (record { kind = Mark; place = 0; bytes = close } ∷ [])
-    ; spelled = λ js. simp append-assoc (simp (l .spelled)); fit = matches-append (l .fit) (more (refl, refl) none) }
+    value = l .value ∷ [];
+    entries = l .entries ++ (mark close ∷ []);
+    tokens = l .tokens ++ (record { kind = Mark; place = 0; bytes = close } ∷ []);
+    spelled = λ js. simp append-assoc (simp (l .spelled));
+    fit = matches-append (l .fit) (more (refl, refl) none);
+  }
 
 module _ {f : Frame} {A : Type 0} {spell : A → List Spelled → List Spelled} {E E' : Reader A} (close : List ℕ) (element : (n : ℕ) → Law f n E E' (Spelt spell)) where
   pub commas-law : (room room' : ℕ) → room ≤ room' → Law f room (commas (f .end) close E room) (commas (f .end) close E' room') (Closed spell close)
@@ -200,9 +233,13 @@ inner-live : (depth : ℕ) → Live (Inner depth)
 unfolding Inner
 inner-live depth =
     let r : Ident = record { place = 0; name = [] } in
-    record { value = list r int; entries = mark (codes "@") ∷ name r ∷ mark (codes "(") ∷ key (codes "int") ∷ mark (codes ")") ∷ []
-      ; tokens = tok Mark (codes "@") ∷ tok Name [] ∷ tok Mark (codes "(") ∷ tok Keyword (codes "int") ∷ tok Mark (codes ")") ∷ []
-      ; spelled = λ js. refl; fit = more (refl, refl) (more (refl, (refl, refl)) (more (refl, refl) (more (refl, refl) (more (refl, refl) none)))) }
+    record {
+      value = list r int;
+      entries = mark (codes "@") ∷ name r ∷ mark (codes "(") ∷ key (codes "int") ∷ mark (codes ")") ∷ [];
+      tokens = tok Mark (codes "@") ∷ tok Name [] ∷ tok Mark (codes "(") ∷ tok Keyword (codes "int") ∷ tok Mark (codes ")") ∷ [];
+      spelled = λ js. refl;
+      fit = more (refl, refl) (more (refl, (refl, refl)) (more (refl, refl) (more (refl, refl) (more (refl, refl) none))));
+    }
 
 int-into : (depth : ℕ) (p : ℕ) (T : Ty) (is : List Spelled) → Just int T is → Spelt (spell-type depth) T (key (codes "int") ∷ is)
 int-into depth p _ _ just js = refl
@@ -223,6 +260,6 @@ module _ {f : Frame} where
   type-law (suc a) zero depth h same e = absurd (omega arith)
   type-law {room} (suc a) (suc a') depth h same e = int-or depth
       (on-to Keyword (codes "list") (Spelt (spell-type depth)) (type-never depth) {room = room} (omega arith) (λ _. list-at depth) (λ t is. is) (λ _. le-leb depth (f .lists) (omega arith)) (λ _. type-into depth)
-        (λ _. then-law (mark-law (codes "@")) λ _. then-law name-law λ r. then-law (mark-law (codes "(")) λ _.
-          then-law (type-law a a' (suc depth) (omega arith) (λ s. let z = same s in omega arith) (omega arith)) λ T. then-law (mark-law (codes ")")) λ _. give-law (list r T))
-        (refuse-law (type-live depth)))
+      (λ _. then-law (mark-law (codes "@")) λ _. then-law name-law λ r. then-law (mark-law (codes "(")) λ _.
+      then-law (type-law a a' (suc depth) (omega arith) (λ s. let z = same s in omega arith) (omega arith)) λ T. then-law (mark-law (codes ")")) λ _. give-law (list r T))
+      (refuse-law (type-live depth)))

@@ -1,21 +1,20 @@
 -- The tokens of a text stand at places that rise and are below its length, so a place tells where a list of tokens is split.
 use mathlib.Core.Path.{_≡_, refl, sym, ap, _∙_, subst}
-use mathlib.Core.Bool.{Bool, true, false, _||_}
+use mathlib.Core.Bool.{Bool, true, false}
 use mathlib.Core.List.{List, [], _∷_, _++_}
-use Prim.Native.Nat.{ℕ, zero, suc, _+_, _-_, _≤_, _<_}
+use Prim.Native.Nat.{ℕ, zero, suc, _+_, _≤_, _<_}
 use native.Mathlib.Omega.{arith}
-use lib.Dec.{eqb, leb}
+use lib.Dec.{leb}
 use lib.ListN.{length, take, drop, length-drop}
-use borrow.Author.Tests.{eqb-true, leb-true}
 use Rattle.std.specs.declared.result.Result.{Result}
 use Rattle.std.specs.declared.result.Result.the-variants.{Ok, Err}
 use Rattle.lexing.specs.declared.token.Kind.{Kind}
-use Rattle.lexing.specs.declared.token.Kind.the-variants.{End, Name, Keyword, Numeral, Mark}
+use Rattle.lexing.specs.declared.token.Kind.the-variants.{End, Mark}
 use Rattle.lexing.specs.declared.fault.Question.{Question}
 use Rattle.lexing.specs.declared.fault.Question.the-variants.{TextLength, FirstByte, TokenCount}
-use Rattle.lexing.specs.Classes.{class-of, letter, digit, mark, minus, blank, word-byte}
+use Rattle.lexing.specs.Classes.{letter, digit, mark, minus, blank, word-byte}
 use Rattle.lexing.specs.Runs.{run, begins}
-use Rattle.lexing.specs.Tokens.{Lexeme, Refusal, width, numeral-width, numeral-begins, word-kind, numeral-kind, kind-of, unblanked, cut, token-at}
+use Rattle.lexing.specs.Tokens.{Lexeme, Refusal, width, numeral-width, numeral-begins, word-kind, numeral-kind, kind-of, unblanked, cut}
 use Rattle.lexing.specs.Texts.{before, at-end, behind, tokens-from, tokens-of}
 use Rattle.language.specs.Reading.{here}
 use Rattle.language.proofs.Fitting.{false-true}
@@ -75,6 +74,7 @@ width-some b bs k e = by (letter b) refl (numeral-begins (b ∷ bs)) refl (mark 
         at : (t : Bool) → minus b ≡ t → _≡_ {A = Bool} (elim t [ true ↦ begins digit bs | false ↦ digit b ]) true → 0 < elim t [ true ↦ suc (run digit bs) | false ↦ run digit (b ∷ bs) ]
         at true m h = omega arith
         at false m h = run-some digit b bs h
+
     by : (l : Bool) → letter b ≡ l → (n : Bool) → numeral-begins (b ∷ bs) ≡ n → (m : Bool) → mark b ≡ m
         → _≡_ {A = Result Kind Question} (elim l [ true ↦ word-kind (take (width (b ∷ bs)) (b ∷ bs)) | false ↦ elim n [ true ↦ numeral-kind (take (width (b ∷ bs)) (b ∷ bs)) (drop (width (b ∷ bs)) (b ∷ bs)) | false ↦ elim m [ true ↦ Ok Mark | false ↦ Err FirstByte ] ] ]) (Ok k)
         → 0 < elim l [ true ↦ run word-byte (b ∷ bs) | false ↦ elim n [ true ↦ numeral-width (b ∷ bs) | false ↦ elim m [ true ↦ 1 | false ↦ 0 ] ] ]
@@ -104,8 +104,9 @@ before-ok t (Err x) ts e = absurd (let z : _≡_ {A = ℕ} 0 1 = cc in omega ari
 abbrev first-then : ℕ → ℕ → Result (Lexeme × List ℕ) Refusal → Result (List Lexeme) Refusal
 first-then steps room (Err e) = Err e
 first-then steps room (Ok (t, rest)) = elim (at-end (t .kind)) [
-    true ↦ Ok []
-  | false ↦ elim room [ zero ↦ Err (record { question = TokenCount; place = t .place }) | suc more ↦ before t (tokens-from steps more (behind t) rest) ] ]
+  | true ↦ Ok []
+  | false ↦ elim room [ zero ↦ Err (record { question = TokenCount; place = t .place }) | suc more ↦ before t (tokens-from steps more (behind t) rest) ]
+]
 
 rising-from : (steps room offset end : ℕ) (s : List ℕ) (ts : List Lexeme) → offset + length s ≤ end → tokens-from steps room offset s ≡ Ok ts → Rising offset end ts
 rising-from zero room offset end s ts h e = subst (Rising offset end) (let z : [] ≡ ts = cc in z) (let z : offset ≤ end = omega arith in z)
@@ -113,8 +114,10 @@ rising-from (suc steps) room offset end s ts h e = by (kind-of u) refl room e (r
   where
     u : List ℕ
     u = unblanked s
+
     tok : Kind → Lexeme
     tok k = record { kind = k; place = offset + run blank s; bytes = take (width u) u }
+
     by : (r : Result Kind Question) → kind-of u ≡ r → (room : ℕ)
         → first-then steps room (elim r [ Ok k ↦ Ok (cut offset s k) | Err q ↦ Err (record { question = q; place = offset + run blank s }) ]) ≡ Ok ts
         → ((room offset end : ℕ) (s : List ℕ) (ts : List Lexeme) → offset + length s ≤ end → tokens-from steps room offset s ≡ Ok ts → Rising offset end ts) → Rising offset end ts

@@ -1,10 +1,9 @@
 -- The laws of reading.
 use mathlib.Core.Path.{_≡_, refl, sym, ap, _∙_, subst}
-use mathlib.Core.Bool.{Bool, true, false}
+use mathlib.Core.Bool.{true}
 use mathlib.Core.List.{List, [], _∷_, _++_, append-nil}
-use Prim.Native.Nat.{ℕ, zero, suc, _+_, _≤_, _<_}
+use Prim.Native.Nat.{ℕ, suc, _+_, _≤_}
 use native.Mathlib.Omega.{arith}
-use lib.Dec.{leb}
 use lib.ListN.{length}
 use borrow.Author.Tests.{leb-true, le-leb}
 use Rattle.std.specs.declared.result.Result.{Result}
@@ -12,16 +11,15 @@ use Rattle.std.specs.declared.result.Result.the-variants.{Ok, Err}
 use Rattle.lexing.specs.Tokens.{Lexeme, Refusal}
 use Rattle.lexing.specs.Texts.{tokens-of}
 use Rattle.lexing.specs.Numbers.{question-number}
-use Rattle.language.specs.Syntax.{Fun, Script}
+use Rattle.language.specs.Syntax.{Script}
 use Rattle.language.specs.Verdict.{Refused}
-use Rattle.language.specs.Spelling.{Spelled, word, word-at, block-at, list-at, name, number, Fits, Matches, more, spell-fun, spell, Spells}
+use Rattle.language.specs.Spelling.{Spelled, word, word-at, block-at, list-at, name, number, more, spell, Spells}
 use Rattle.language.specs.Nesting.{shallow, shallows, most-blocks, most-lists, Within}
 use Rattle.language.specs.Reading.{here, fun-of, funs, script-of, reading}
-use Rattle.language.specs.ReadingLaws.{Spells-one, Reads-spelled, Begun, Stops, Cannot-go-on, Too-deep, Refused-for, tokens, cannot-go-on, too-deep, Refuses-rightly}
-use Rattle.language.proofs.Fitting.{false-true, shallows-first, shallows-more}
-use Rattle.language.proofs.Told.{Alike, both-end, both-at, Spelt, Frame, Law}
+use Rattle.language.specs.ReadingLaws.{Spells-one, Reads-spelled, Stops, Refused-for, tokens, cannot-go-on, too-deep, Refuses-rightly}
+use Rattle.language.proofs.Fitting.{shallows-first, shallows-more}
+use Rattle.language.proofs.Told.{Alike, both-end, both-at, Frame}
 use Rattle.language.proofs.Blocks.{fun-law}
-use Rattle.language.proofs.Complete.{Fitted}
 use Rattle.language.proofs.Scripts.{script-read, Halts, Sinks, Whole, all, halts, sinks, ends, whole}
 use Rattle.language.proofs.Places.{Rising, one-split, rising-tokens}
 
@@ -116,7 +114,7 @@ module _ (end : ℕ) (ts : List Lexeme) (rises : Rising 0 end ts) (p : ℕ) wher
       let b = most-blocks + n .0 in
       let room = suc (length ts) + suc (length (used ++ other)) in
       let w = is-stuck end ts ⊥ room l b (omega arith) (omega arith) (omega arith) (λ x. absurd x) (λ x. absurd x) p _
-                (answers end ts ⊥ room l b (omega arith) (omega arith) (omega arith) (λ x. absurd x) (λ x. absurd x)) e in
+      (answers end ts ⊥ room l b (omega arith) (omega arith) (omega arith) (λ x. absurd x) (λ x. absurd x)) e in
       let z = one-split 0 end used left (w .used) (w .left) (subst (Rising 0 end) split rises) (sym split ∙ w .split) (sym at ∙ w .at) in
       let x = w .again other (subst (λ o. Alike o other) (z .1) like) in
       let y = script-read end b l room room g gs (used ++ other) (omega arith) (omega arith) (record { fit = h; fine = all-wider (n .0) b (n .0) l (omega arith) (omega arith) (spell (g ∷ gs)) (n .1) }) in
@@ -128,7 +126,7 @@ module _ (end : ℕ) (ts : List Lexeme) (rises : Rising 0 end ts) (p : ℕ) wher
   none-within e used left token split at (g ∷ gs) on h fine =
       let room = suc (length ts) + suc (length (used ++ (token ∷ on))) in
       let w = is-deep end ts (Unit {0}) room most-lists most-blocks (omega arith) (omega arith) (omega arith) (λ _. refl) (λ _. refl) p _
-                (answers end ts (Unit {0}) room most-lists most-blocks (omega arith) (omega arith) (omega arith) (λ _. refl) (λ _. refl)) e in
+      (answers end ts (Unit {0}) room most-lists most-blocks (omega arith) (omega arith) (omega arith) (λ _. refl) (λ _. refl)) e in
       let z = one-split 0 end used (token ∷ left) (w .used) (w .token ∷ w .left) (subst (Rising 0 end) split rises) (sym split ∙ w .split) (sym at ∙ w .at) in
       let t : token ≡ w .token = cc (z .1) in
       let x = w .again tt on in
@@ -152,9 +150,11 @@ reads-spelled text s = (λ e. by (tokens-of text) refl e, back)
     by : (r : Result (List Lexeme) Refusal) → tokens-of text ≡ r → reading text ≡ Ok s → (ts : List Lexeme) × (tokens-of text ≡ Ok ts) × Spells ts s × Within s
     by (Ok ts) t e = let h = is-read (length text) ts (Unit {0}) (suc (length ts)) most-lists most-blocks (omega arith) (omega arith) (omega arith) (λ _. refl) (λ _. refl) s _ (told text ts) (sym (read-tokens text ts t) ∙ e) in (ts, t, h .0, h .1)
     by (Err r) t e = ok-err (sym e ∙ read-refused text r t)
+
     spelt : (s : Script) (ts : List Lexeme) → tokens-of text ≡ Ok ts → Spells ts s → Within s → reading text ≡ Ok s
     spelt [] ts t h k = absurd h
     spelt (g ∷ gs) ts t h k = read-tokens text ts t ∙ script-read (length text) most-blocks most-lists (suc (length ts)) (suc (length ts)) g gs ts (omega arith) (omega arith) (record { fit = h; fine = k })
+
     back : (ts : List Lexeme) → tokens-of text ≡ Ok ts → Spells ts s → Within s → reading text ≡ Ok s
     back ts t h k = spelt s ts t h k
 
@@ -170,15 +170,29 @@ refuses-rightly text e h = by (tokens-of text) refl
         → a ≡ Err e → Refused-for text e
     for ts t _ q (all m x) c = ok-err c
     for ts t _ q (halts {p = p} w) c = subst (Refused-for text) (err-is c) (cannot-go-on (record {
-        before = w .used; after = w .left; next = w .next; are = t ∙ ap (λ (o : List Lexeme). Ok o) (w .split); at = w .at
-      ; begun = record { one = w .one; others = w .others; entries = w .entries; spelled = sym (w .spelled); fit = w .fit; fine = w .fine; more = w .tokens; goes-on = w .goes-on }
-      ; stops = stops-at (w .used) (w .left) (no-script (length text) ts (rising-tokens text ts t) p q (w .used) (w .left) (w .split) (w .at)) }))
+      before = w .used;
+      after = w .left;
+      next = w .next;
+      are = t ∙ ap (λ (o : List Lexeme). Ok o) (w .split);
+      at = w .at;
+      begun = record { one = w .one; others = w .others; entries = w .entries; spelled = sym (w .spelled); fit = w .fit; fine = w .fine; more = w .tokens; goes-on = w .goes-on };
+      stops = stops-at (w .used) (w .left) (no-script (length text) ts (rising-tokens text ts t) p q (w .used) (w .left) (w .split) (w .at));
+    }))
     for ts t _ q (sinks {p = p} w) c = subst (Refused-for text) (err-is c) (too-deep (record {
-        before = w .used; token = w .token; after = w .left; entry = w .entry; next = w .next; are = t ∙ ap (λ (o : List Lexeme). Ok o) (w .split); at = w .at
-      ; begun = record { one = w .one; others = w .others; entries = w .entries; spelled = sym (w .spelled); fit = w .fit; fine = w .fine; more = w .token ∷ w .tokens; goes-on = more (w .fits) (w .goes-on) }
-      ; fits = w .fits; deep = w .deep
-      ; outside = none-within (length text) ts (rising-tokens text ts t) p q (w .used) (w .left) (w .token) (w .split) (w .at) }))
+      before = w .used;
+      token = w .token;
+      after = w .left;
+      entry = w .entry;
+      next = w .next;
+      are = t ∙ ap (λ (o : List Lexeme). Ok o) (w .split);
+      at = w .at;
+      begun = record { one = w .one; others = w .others; entries = w .entries; spelled = sym (w .spelled); fit = w .fit; fine = w .fine; more = w .token ∷ w .tokens; goes-on = more (w .fits) (w .goes-on) };
+      fits = w .fits;
+      deep = w .deep;
+      outside = none-within (length text) ts (rising-tokens text ts t) p q (w .used) (w .left) (w .token) (w .split) (w .at);
+    }))
     for ts t _ q (ends x) c = absurd (omega arith)
+
     by : (r : Result (List Lexeme) Refusal) → tokens-of text ≡ r → Refused-for text e
     by (Ok ts) t = for ts t (script-of (length text) (suc (length ts)) most-lists most-blocks ts) refl (told text ts) (sym (read-tokens text ts t) ∙ h)
     by (Err r) t = subst (Refused-for text) (err-is (sym (read-refused text r t) ∙ h)) (tokens r t)

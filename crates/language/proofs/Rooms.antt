@@ -1,16 +1,15 @@
 -- The room for repetitions is no limit: above the number of tokens, any room gives the same answer.
-use mathlib.Core.Path.{_≡_, refl, sym, ap, _∙_, subst}
-use mathlib.Core.List.{List, [], _∷_, _++_}
-use Prim.Native.Nat.{ℕ, zero, suc, _+_, _≤_, _<_}
+use mathlib.Core.Path.{_≡_, refl, sym, ap, _∙_}
+use mathlib.Core.List.{List, [], _∷_}
+use Prim.Native.Nat.{ℕ, _≤_, _<_}
 use native.Mathlib.Omega.{arith}
 use lib.ListN.{length}
-use Rattle.std.specs.declared.result.Result.the-variants.{Ok, Err}
+use Rattle.std.specs.declared.result.Result.the-variants.{Err}
 use Rattle.lexing.specs.Tokens.{Lexeme}
-use Rattle.language.specs.Syntax.{Ty, Atom, Right, Block, Fun}
-use Rattle.language.specs.Spelling.{Spelled, spell-type, spell-atom, spell-name, spell-block, spell-inside, spell-right}
-use Rattle.language.specs.Reading.{Answer, Reader, here, atom-of, name-of, commas, regions, elements, type-of, right-of, inside, block-of, fun-of}
+use Rattle.language.specs.Spelling.{spell-right}
+use Rattle.language.specs.Reading.{Answer, Reader, atom-of, regions, elements, type-of, right-of, inside, block-of, fun-of}
 use Rattle.language.proofs.Told.{Lang, Alike, both-end, both-at, Spelt, Frame, Told, read, stuck, deep, spent, Law}
-use Rattle.language.proofs.Parts.{name-law, atom-law, commas-law, regions-law, elements-law, type-law}
+use Rattle.language.proofs.Parts.{atom-law, regions-law, elements-law}
 use Rattle.language.proofs.Blocks.{atom-some, types-law, right-law, inside-law, block-law, fun-law}
 
 alike : (ts : List Lexeme) → Alike ts ts

@@ -1,21 +1,21 @@
 -- What reading a whole list of tokens tells, and that a script's spelling is read.
 use mathlib.Core.Path.{_≡_, refl, sym, ap, _∙_, subst}
-use mathlib.Core.Bool.{Bool, true, false}
+use mathlib.Core.Bool.{true, false}
 use mathlib.Core.List.{List, [], _∷_, _++_, append-assoc, append-nil}
-use Prim.Native.Nat.{ℕ, zero, suc, _+_, _≤_, _<_}
+use Prim.Native.Nat.{ℕ, zero, suc, _≤_, _<_}
 use native.Mathlib.Omega.{arith}
 use lib.ListN.{length, length-append}
 use Rattle.std.specs.declared.result.Result.{Result}
 use Rattle.std.specs.declared.result.Result.the-variants.{Ok, Err}
 use Rattle.lexing.specs.Tokens.{Lexeme}
-use Rattle.language.specs.Syntax.{Fun, Script}
+use Rattle.language.specs.Syntax.{Fun}
 use Rattle.language.specs.Verdict.{Refused}
 use Rattle.language.specs.Spelling.{Spelled, Fits, Matches, none, more, spell-fun, spell}
 use Rattle.language.specs.Nesting.{shallow, shallows}
 use Rattle.language.specs.Reading.{Answer, Reader, here, fun-of, funs}
 use Rattle.language.proofs.Fitting.{matches-append, shallows-append}
-use Rattle.language.proofs.Told.{Alike, both-end, both-at, Spelt, Frame, Read, Stuck, Deep, Told, read, stuck, deep, spent, Law}
-use Rattle.language.proofs.Complete.{Fitted, Reads, fun-read}
+use Rattle.language.proofs.Told.{Alike, both-end, both-at, Spelt, Frame, Read, Told, read, stuck, deep, spent, Law}
+use Rattle.language.proofs.Complete.{Fitted, fun-read}
 
 -- a function was read, with tokens behind it or none, or it was refused
 funs-last : (end : ℕ) (F : Reader Fun) (n : ℕ) (ts : List Lexeme) {g : Fun} → F ts ≡ Ok (g, []) → funs end F (suc n) ts ≡ Ok (g ∷ [])
@@ -121,15 +121,41 @@ module _ (f : Frame) (F' : Reader Fun) where
         (subst (λ o. Matches o (spell (g ∷ h ∷ gs))) (sym (r .split)) (subst (Matches (r .used ++ (t ∷ left))) (r .spelled (spell (h ∷ gs))) (matches-append (r .fit) m)))
         (subst (λ o. shallows (f .blocks) (f .lists) o ≡ true) (r .spelled (spell (h ∷ gs))) (shallows-append (f .blocks) (f .lists) (r .entries) (spell (h ∷ gs)) (r .fine) s))
     further _ (halts h) = halts (record {
-        used = r .used ++ h .used; left = h .left; one = g; others = h .one ∷ h .others; entries = r .entries ++ h .entries; next = h .next; tokens = h .tokens
-      ; split = longer (h .used) (h .left) (h .split); at = h .at; spelled = joined (h .entries) (h .next) (h .one ∷ h .others) (h .spelled)
-      ; fit = matches-append (r .fit) (h .fit); fine = shallows-append (f .blocks) (f .lists) (r .entries) (h .entries) (r .fine) (h .fine); goes-on = h .goes-on
-      ; again = λ other like. refused-again (h .used) other (λ u o. some-left (h .used) u (alike-none like o) (h .split)) (h .again other like) })
+      used = r .used ++ h .used;
+      left = h .left;
+      one = g;
+      others = h .one ∷ h .others;
+      entries = r .entries ++ h .entries;
+      next = h .next;
+      tokens = h .tokens;
+      split = longer (h .used) (h .left) (h .split);
+      at = h .at;
+      spelled = joined (h .entries) (h .next) (h .one ∷ h .others) (h .spelled);
+      fit = matches-append (r .fit) (h .fit);
+      fine = shallows-append (f .blocks) (f .lists) (r .entries) (h .entries) (r .fine) (h .fine);
+      goes-on = h .goes-on;
+      again = λ other like. refused-again (h .used) other (λ u o. some-left (h .used) u (alike-none like o) (h .split)) (h .again other like);
+    })
     further _ (sinks h) = sinks (record {
-        used = r .used ++ h .used; token = h .token; left = h .left; one = g; others = h .one ∷ h .others; entries = r .entries ++ h .entries; entry = h .entry; next = h .next; tokens = h .tokens
-      ; split = longer (h .used) (h .token ∷ h .left) (h .split); at = h .at; spelled = joined (h .entries) (h .entry ∷ h .next) (h .one ∷ h .others) (h .spelled)
-      ; fit = matches-append (r .fit) (h .fit); fine = shallows-append (f .blocks) (f .lists) (r .entries) (h .entries) (r .fine) (h .fine); fits = h .fits; deep = h .deep; goes-on = h .goes-on
-      ; again = λ same other. refused-again (h .used) (h .token ∷ other) (λ u o. cons-nil o) (h .again same other) })
+      used = r .used ++ h .used;
+      token = h .token;
+      left = h .left;
+      one = g;
+      others = h .one ∷ h .others;
+      entries = r .entries ++ h .entries;
+      entry = h .entry;
+      next = h .next;
+      tokens = h .tokens;
+      split = longer (h .used) (h .token ∷ h .left) (h .split);
+      at = h .at;
+      spelled = joined (h .entries) (h .entry ∷ h .next) (h .one ∷ h .others) (h .spelled);
+      fit = matches-append (r .fit) (h .fit);
+      fine = shallows-append (f .blocks) (f .lists) (r .entries) (h .entries) (r .fine) (h .fine);
+      fits = h .fits;
+      deep = h .deep;
+      goes-on = h .goes-on;
+      again = λ same other. refused-again (h .used) (h .token ∷ other) (λ u o. cons-nil o) (h .again same other);
+    })
     further _ (ends h) = ends (let e = ap length (r .split) ∙ length-append (r .used) (t ∷ left) in let k = used-some in omega arith)
       where
         used-some : 0 < length (r .used)
@@ -151,11 +177,39 @@ module _ (f : Frame) (F' : Reader Fun) where
           (subst (λ o. shallows (f .blocks) (f .lists) o ≡ true) (sym (append-nil (r .entries)) ∙ r .spelled []) (r .fine))
       go _ (read {x = g} {left = t ∷ left} r) others = further n n' ts r (funs (f .end) F n (t ∷ left)) (others (t ∷ left))
       go _ (stuck s) others = halts (record {
-          used = s .used; left = s .left; one = s .value; others = []; entries = s .entries; next = s .next; tokens = s .tokens; split = s .split; at = s .at
-        ; spelled = sym (append-nil (s .entries ++ s .next)) ∙ s .spelled []; fit = s .fit; fine = s .fine; goes-on = s .goes-on
-        ; again = λ other like. funs-none (f .end) F' n' (s .used ++ other) (s .again other like) })
+        used = s .used;
+        left = s .left;
+        one = s .value;
+        others = [];
+        entries = s .entries;
+        next = s .next;
+        tokens = s .tokens;
+        split = s .split;
+        at = s .at;
+        spelled = sym (append-nil (s .entries ++ s .next)) ∙ s .spelled [];
+        fit = s .fit;
+        fine = s .fine;
+        goes-on = s .goes-on;
+        again = λ other like. funs-none (f .end) F' n' (s .used ++ other) (s .again other like);
+      })
       go _ (deep s) others = sinks (record {
-          used = s .used; token = s .token; left = s .left; one = s .value; others = []; entries = s .entries; entry = s .entry; next = s .next; tokens = s .tokens; split = s .split; at = s .at
-        ; spelled = sym (append-nil (s .entries ++ (s .entry ∷ s .next))) ∙ s .spelled []; fit = s .fit; fine = s .fine; fits = s .fits; deep = s .deep; goes-on = s .goes-on
-        ; again = λ same other. funs-none (f .end) F' n' (s .used ++ (s .token ∷ other)) (s .again same other) })
+        used = s .used;
+        token = s .token;
+        left = s .left;
+        one = s .value;
+        others = [];
+        entries = s .entries;
+        entry = s .entry;
+        next = s .next;
+        tokens = s .tokens;
+        split = s .split;
+        at = s .at;
+        spelled = sym (append-nil (s .entries ++ (s .entry ∷ s .next))) ∙ s .spelled [];
+        fit = s .fit;
+        fine = s .fine;
+        fits = s .fits;
+        deep = s .deep;
+        goes-on = s .goes-on;
+        again = λ same other. funs-none (f .end) F' n' (s .used ++ (s .token ∷ other)) (s .again same other);
+      })
       go _ (spent x) others = ends (omega arith)

@@ -1,16 +1,14 @@
 -- What a reader's answer tells of the tokens, and that readers put together tell it too.
 use mathlib.Core.Path.{_≡_, refl, sym, ap, _∙_, subst}
 use mathlib.Core.Bool.{Bool, true, false}
-use mathlib.Core.List.{List, [], _∷_, _++_, append-assoc, append-nil}
+use mathlib.Core.List.{List, [], _∷_, _++_, append-assoc}
 use mathlib.Core.Logic.{_⊎_, inl, inr}
-use Prim.Native.Nat.{ℕ, zero, suc, _+_, _≤_}
+use Prim.Native.Nat.{ℕ, suc, _≤_}
 use native.Mathlib.Omega.{arith}
 use lib.ListN.{length, length-append}
-use Rattle.std.specs.declared.result.Result.{Result}
 use Rattle.std.specs.declared.result.Result.the-variants.{Ok, Err}
 use Rattle.lexing.specs.declared.token.Kind.{Kind}
 use Rattle.lexing.specs.Tokens.{Lexeme}
-use Rattle.language.specs.Verdict.{Refused}
 use Rattle.language.specs.Spelling.{Spelled, Is, Fits, Matches, none, more}
 use Rattle.language.specs.Nesting.{shallow, shallows}
 use Rattle.language.specs.Reading.{Answer, Reader, here, rest, refuse, then, give, starts, on}
@@ -147,8 +145,9 @@ module _ {f : Frame} where
   -- a language that holds more
   pub widen : {A : Type 0} {room : ℕ} {Q R : Reader A} {L M : Lang A} → ((x : A) (is : List Spelled) → L x is → M x is) → Law f room Q R L → Law f room Q R M
   widen {room = room} {Q = Q} {R = R} {L = L} {M = M} wider law = record {
-      told = λ ts. go ts (Q ts) (law .told ts)
-    ; live = record { value = law .live .value; entries = law .live .entries; tokens = law .live .tokens; spelled = wider _ _ (law .live .spelled); fit = law .live .fit } }
+    told = λ ts. go ts (Q ts) (law .told ts);
+    live = record { value = law .live .value; entries = law .live .entries; tokens = law .live .tokens; spelled = wider _ _ (law .live .spelled); fit = law .live .fit };
+  }
     where
       go : (ts : List Lexeme) (a : Answer _) → Told f room R L ts a → Told f room R M ts a
       go ts _ (read r) = read (record { used = r .used; entries = r .entries; split = r .split; spelled = wider _ _ (r .spelled); fit = r .fit; fine = r .fine; again = r .again })
@@ -168,8 +167,9 @@ module _ {f : Frame} where
 
   pub give-law : {A : Type 0} {room : ℕ} (x : A) → Law f room (give x) (give x) (Just x)
   give-law x = record {
-      told = λ ts. read (record { used = []; entries = []; split = refl; spelled = just; fit = none; fine = refl; again = λ other. refl })
-    ; live = record { value = x; entries = []; tokens = []; spelled = just; fit = none } }
+    told = λ ts. read (record { used = []; entries = []; split = refl; spelled = just; fit = none; fine = refl; again = λ other. refl });
+    live = record { value = x; entries = []; tokens = []; spelled = just; fit = none };
+  }
 
   -- one reader behind another
   module _ {A B : Type 0} {room : ℕ} {Q R : Reader A} {L : Lang A} {K K' : A → Reader B} {M : A → Lang B}
@@ -182,31 +182,48 @@ module _ {f : Frame} where
 
     behind : (ts : List Lexeme) {x : A} {left : List Lexeme} → Read f R L ts x left → (a : Answer B) → Told f room (K' x) (M x) left a → Told f room R' (Seq L M) ts a
     behind ts r _ (read q) = read (record {
-        used = r .used ++ q .used; entries = r .entries ++ q .entries
-      ; split = r .split ∙ ap (λ o. r .used ++ o) (q .split) ∙ sym (append-assoc (r .used) (q .used) _)
-      ; spelled = seq (r .spelled) (q .spelled)
-      ; fit = matches-append (r .fit) (q .fit)
-      ; fine = shallows-append (f .blocks) (f .lists) (r .entries) (q .entries) (r .fine) (q .fine)
-      ; again = λ other. again-both (r .used) (q .used) other _ (r .again) (q .again other) })
+      used = r .used ++ q .used;
+      entries = r .entries ++ q .entries;
+      split = r .split ∙ ap (λ o. r .used ++ o) (q .split) ∙ sym (append-assoc (r .used) (q .used) _);
+      spelled = seq (r .spelled) (q .spelled);
+      fit = matches-append (r .fit) (q .fit);
+      fine = shallows-append (f .blocks) (f .lists) (r .entries) (q .entries) (r .fine) (q .fine);
+      again = λ other. again-both (r .used) (q .used) other _ (r .again) (q .again other);
+    })
     behind ts r _ (stuck q) = stuck (record {
-        used = r .used ++ q .used; left = q .left; value = q .value; entries = r .entries ++ q .entries; next = q .next; tokens = q .tokens
-      ; split = r .split ∙ ap (λ o. r .used ++ o) (q .split) ∙ sym (append-assoc (r .used) (q .used) _)
-      ; at = q .at
-      ; spelled = rw (append-assoc (r .entries) (q .entries) (q .next)) (seq (r .spelled) (q .spelled))
-      ; fit = matches-append (r .fit) (q .fit)
-      ; fine = shallows-append (f .blocks) (f .lists) (r .entries) (q .entries) (r .fine) (q .fine)
-      ; goes-on = q .goes-on
-      ; again = λ other like. again-both (r .used) (q .used) other _ (r .again) (q .again other like) })
+      used = r .used ++ q .used;
+      left = q .left;
+      value = q .value;
+      entries = r .entries ++ q .entries;
+      next = q .next;
+      tokens = q .tokens;
+      split = r .split ∙ ap (λ o. r .used ++ o) (q .split) ∙ sym (append-assoc (r .used) (q .used) _);
+      at = q .at;
+      spelled = rw (append-assoc (r .entries) (q .entries) (q .next)) (seq (r .spelled) (q .spelled));
+      fit = matches-append (r .fit) (q .fit);
+      fine = shallows-append (f .blocks) (f .lists) (r .entries) (q .entries) (r .fine) (q .fine);
+      goes-on = q .goes-on;
+      again = λ other like. again-both (r .used) (q .used) other _ (r .again) (q .again other like);
+    })
     behind ts r _ (deep q) = deep (record {
-        used = r .used ++ q .used; token = q .token; left = q .left; value = q .value; entries = r .entries ++ q .entries; entry = q .entry; next = q .next; tokens = q .tokens
-      ; split = r .split ∙ ap (λ o. r .used ++ o) (q .split) ∙ sym (append-assoc (r .used) (q .used) _)
-      ; at = q .at
-      ; spelled = rw (append-assoc (r .entries) (q .entries) (q .entry ∷ q .next)) (seq (r .spelled) (q .spelled))
-      ; fit = matches-append (r .fit) (q .fit)
-      ; fine = shallows-append (f .blocks) (f .lists) (r .entries) (q .entries) (r .fine) (q .fine)
-      ; fits = q .fits; deep = q .deep
-      ; goes-on = q .goes-on
-      ; again = λ same other. again-both (r .used) (q .used) (q .token ∷ other) _ (r .again) (q .again same other) })
+      used = r .used ++ q .used;
+      token = q .token;
+      left = q .left;
+      value = q .value;
+      entries = r .entries ++ q .entries;
+      entry = q .entry;
+      next = q .next;
+      tokens = q .tokens;
+      split = r .split ∙ ap (λ o. r .used ++ o) (q .split) ∙ sym (append-assoc (r .used) (q .used) _);
+      at = q .at;
+      spelled = rw (append-assoc (r .entries) (q .entries) (q .entry ∷ q .next)) (seq (r .spelled) (q .spelled));
+      fit = matches-append (r .fit) (q .fit);
+      fine = shallows-append (f .blocks) (f .lists) (r .entries) (q .entries) (r .fine) (q .fine);
+      fits = q .fits;
+      deep = q .deep;
+      goes-on = q .goes-on;
+      again = λ same other. again-both (r .used) (q .used) (q .token ∷ other) _ (r .again) (q .again same other);
+    })
     behind ts {left = left} r _ (spent h) = spent (let e = ap length (r .split) ∙ length-append (r .used) left in omega arith)
 
     start : (ts : List Lexeme) (a : Answer A) → Told f room R L ts a → Told f room R' (Seq L M) ts (then a K)
@@ -214,38 +231,72 @@ module _ {f : Frame} where
     start ts _ (stuck s) =
         let l = second (s .value) .live in
         stuck (record {
-        used = s .used; left = s .left; value = l .value; entries = s .entries; next = s .next ++ l .entries; tokens = s .tokens ++ l .tokens
-      ; split = s .split; at = s .at
-      ; spelled = rw (← append-assoc (s .entries) (s .next) (l .entries)) (seq (s .spelled) (l .spelled))
-      ; fit = s .fit; fine = s .fine
-      ; goes-on = matches-append (s .goes-on) (l .fit)
-      ; again = λ other like. ap (λ o. then o K') (s .again other like) })
+          used = s .used;
+          left = s .left;
+          value = l .value;
+          entries = s .entries;
+          next = s .next ++ l .entries;
+          tokens = s .tokens ++ l .tokens;
+          split = s .split;
+          at = s .at;
+          spelled = rw (← append-assoc (s .entries) (s .next) (l .entries)) (seq (s .spelled) (l .spelled));
+          fit = s .fit;
+          fine = s .fine;
+          goes-on = matches-append (s .goes-on) (l .fit);
+          again = λ other like. ap (λ o. then o K') (s .again other like);
+        })
     start ts _ (deep s) =
         let l = second (s .value) .live in
         deep (record {
-        used = s .used; token = s .token; left = s .left; value = l .value; entries = s .entries; entry = s .entry; next = s .next ++ l .entries; tokens = s .tokens ++ l .tokens
-      ; split = s .split; at = s .at
-      ; spelled = rw (← append-assoc (s .entries) (s .entry ∷ s .next) (l .entries)) (seq (s .spelled) (l .spelled))
-      ; fit = s .fit; fine = s .fine; fits = s .fits; deep = s .deep
-      ; goes-on = matches-append (s .goes-on) (l .fit)
-      ; again = λ same other. ap (λ o. then o K') (s .again same other) })
+          used = s .used;
+          token = s .token;
+          left = s .left;
+          value = l .value;
+          entries = s .entries;
+          entry = s .entry;
+          next = s .next ++ l .entries;
+          tokens = s .tokens ++ l .tokens;
+          split = s .split;
+          at = s .at;
+          spelled = rw (← append-assoc (s .entries) (s .entry ∷ s .next) (l .entries)) (seq (s .spelled) (l .spelled));
+          fit = s .fit;
+          fine = s .fine;
+          fits = s .fits;
+          deep = s .deep;
+          goes-on = matches-append (s .goes-on) (l .fit);
+          again = λ same other. ap (λ o. then o K') (s .again same other);
+        })
     start ts _ (spent h) = spent h
 
     pub then-law : Law f room (λ ts. then (Q ts) K) (λ ts. then (R ts) K') (Seq L M)
     then-law = record {
-        told = λ ts. start ts (Q ts) (first .told ts)
-      ; live =
+      told = λ ts. start ts (Q ts) (first .told ts);
+      live =
           let l = first .live in
           let m = second (l .value) .live in
-          record { value = m .value; entries = l .entries ++ m .entries; tokens = l .tokens ++ m .tokens; spelled = seq (l .spelled) (m .spelled); fit = matches-append (l .fit) (m .fit) } }
+          record { value = m .value; entries = l .entries ++ m .entries; tokens = l .tokens ++ m .tokens; spelled = seq (l .spelled) (m .spelled); fit = matches-append (l .fit) (m .fit) };
+    }
 
   -- where nothing else can stand
   pub refuse-law : {A : Type 0} {room : ℕ} {L : Lang A} → Live L → Law f room (refuse (f .end) 6) (refuse (f .end) 6) L
   refuse-law l = record {
-      told = λ ts. stuck (record {
-          used = []; left = ts; value = l .value; entries = []; next = l .entries; tokens = l .tokens; split = refl; at = refl
-        ; spelled = l .spelled; fit = none; fine = refl; goes-on = l .fit; again = λ other like. refl })
-    ; live = l }
+    told = λ ts. stuck (record {
+      used = [];
+      left = ts;
+      value = l .value;
+      entries = [];
+      next = l .entries;
+      tokens = l .tokens;
+      split = refl;
+      at = refl;
+      spelled = l .spelled;
+      fit = none;
+      fine = refl;
+      goes-on = l .fit;
+      again = λ other like. refl;
+    });
+    live = l;
+  }
 
   -- one way behind a word, another where it does not stand
   module _ {A : Type 0} (room n : ℕ) (less : n ≤ suc room) (k : Kind) (w : List ℕ) (item : ℕ → Spelled) (fits : (t : Lexeme) → Is k w t → Fits (item (t .place)) t)
@@ -258,16 +309,48 @@ module _ {f : Frame} where
 
     otherwise : (ts : List Lexeme) → starts k w ts ≡ false → (a : Answer A) → Told f n S' M ts a → Told f n O' E ts a
     otherwise ts e _ (read r) = read (record {
-        used = r .used; entries = r .entries; split = r .split; spelled = inr (r .spelled); fit = r .fit; fine = r .fine
-      ; again = λ o. skips (f .end) k w K' S' (r .used ++ o) (same-start k w (r .used) _ o (λ z. absurd (never _ (subst (M _) (empty-fit (r .fit) z) (r .spelled)))) ∙ ap (starts k w) (sym (r .split)) ∙ e) ∙ r .again o })
+      used = r .used;
+      entries = r .entries;
+      split = r .split;
+      spelled = inr (r .spelled);
+      fit = r .fit;
+      fine = r .fine;
+      again = λ o. skips (f .end) k w K' S' (r .used ++ o) (same-start k w (r .used) _ o (λ z. absurd (never _ (subst (M _) (empty-fit (r .fit) z) (r .spelled)))) ∙ ap (starts k w) (sym (r .split)) ∙ e) ∙ r .again o;
+    })
     otherwise ts e _ (stuck r) = stuck (record {
-        used = r .used; left = r .left; value = r .value; entries = r .entries; next = r .next; tokens = r .tokens; split = r .split; at = r .at
-      ; spelled = inr (r .spelled); fit = r .fit; fine = r .fine; goes-on = r .goes-on
-      ; again = λ o like. skips (f .end) k w K' S' (r .used ++ o) (same-start k w (r .used) (r .left) o (λ _. like) ∙ ap (starts k w) (sym (r .split)) ∙ e) ∙ r .again o like })
+      used = r .used;
+      left = r .left;
+      value = r .value;
+      entries = r .entries;
+      next = r .next;
+      tokens = r .tokens;
+      split = r .split;
+      at = r .at;
+      spelled = inr (r .spelled);
+      fit = r .fit;
+      fine = r .fine;
+      goes-on = r .goes-on;
+      again = λ o like. skips (f .end) k w K' S' (r .used ++ o) (same-start k w (r .used) (r .left) o (λ _. like) ∙ ap (starts k w) (sym (r .split)) ∙ e) ∙ r .again o like;
+    })
     otherwise ts e _ (deep r) = deep (record {
-        used = r .used; token = r .token; left = r .left; value = r .value; entries = r .entries; entry = r .entry; next = r .next; tokens = r .tokens; split = r .split; at = r .at
-      ; spelled = inr (r .spelled); fit = r .fit; fine = r .fine; fits = r .fits; deep = r .deep; goes-on = r .goes-on
-      ; again = λ same o. skips (f .end) k w K' S' (r .used ++ (r .token ∷ o)) (same-start k w (r .used) (r .token ∷ r .left) (r .token ∷ o) (λ _. both-at) ∙ ap (starts k w) (sym (r .split)) ∙ e) ∙ r .again same o })
+      used = r .used;
+      token = r .token;
+      left = r .left;
+      value = r .value;
+      entries = r .entries;
+      entry = r .entry;
+      next = r .next;
+      tokens = r .tokens;
+      split = r .split;
+      at = r .at;
+      spelled = inr (r .spelled);
+      fit = r .fit;
+      fine = r .fine;
+      fits = r .fits;
+      deep = r .deep;
+      goes-on = r .goes-on;
+      again = λ same o. skips (f .end) k w K' S' (r .used ++ (r .token ∷ o)) (same-start k w (r .used) (r .token ∷ r .left) (r .token ∷ o) (λ _. both-at) ∙ ap (starts k w) (sym (r .split)) ∙ e) ∙ r .again same o;
+    })
     otherwise ts e _ (spent h) = spent h
 
     on-told : ((t : Lexeme) (ts : List Lexeme) → Is k w t → starts k w (t ∷ ts) ≡ true → Told f n O' E (t ∷ ts) (K (t .place) ts)) → (ts : List Lexeme) → Told f n O' E ts (on (f .end) k w K S ts)
@@ -280,25 +363,56 @@ module _ {f : Frame} where
 
     met : ((p : ℕ) → shallow (f .blocks) (f .lists) (item p) ≡ true) → (t : Lexeme) (ts : List Lexeme) → Is k w t → starts k w (t ∷ ts) ≡ true → (a : Answer A) → Told f room (K' (t .place)) (L (t .place)) ts a → Told f n O' E (t ∷ ts) a
     met flat t ts is e _ (read r) = read (record {
-        used = t ∷ r .used; entries = item (t .place) ∷ r .entries; split = ap (λ o. t ∷ o) (r .split); spelled = inl (after (r .spelled)); fit = more (fits t is) (r .fit)
-      ; fine = shallows-more (f .blocks) (f .lists) (item (t .place)) (r .entries) (flat (t .place)) (r .fine)
-      ; again = λ o. meets (f .end) k w K' S' (t ∷ (r .used ++ o)) e ∙ r .again o })
+      used = t ∷ r .used;
+      entries = item (t .place) ∷ r .entries;
+      split = ap (λ o. t ∷ o) (r .split);
+      spelled = inl (after (r .spelled));
+      fit = more (fits t is) (r .fit);
+      fine = shallows-more (f .blocks) (f .lists) (item (t .place)) (r .entries) (flat (t .place)) (r .fine);
+      again = λ o. meets (f .end) k w K' S' (t ∷ (r .used ++ o)) e ∙ r .again o;
+    })
     met flat t ts is e _ (stuck r) = stuck (record {
-        used = t ∷ r .used; left = r .left; value = r .value; entries = item (t .place) ∷ r .entries; next = r .next; tokens = r .tokens; split = ap (λ o. t ∷ o) (r .split); at = r .at
-      ; spelled = inl (after (r .spelled)); fit = more (fits t is) (r .fit); fine = shallows-more (f .blocks) (f .lists) (item (t .place)) (r .entries) (flat (t .place)) (r .fine); goes-on = r .goes-on
-      ; again = λ o like. meets (f .end) k w K' S' (t ∷ (r .used ++ o)) e ∙ r .again o like })
+      used = t ∷ r .used;
+      left = r .left;
+      value = r .value;
+      entries = item (t .place) ∷ r .entries;
+      next = r .next;
+      tokens = r .tokens;
+      split = ap (λ o. t ∷ o) (r .split);
+      at = r .at;
+      spelled = inl (after (r .spelled));
+      fit = more (fits t is) (r .fit);
+      fine = shallows-more (f .blocks) (f .lists) (item (t .place)) (r .entries) (flat (t .place)) (r .fine);
+      goes-on = r .goes-on;
+      again = λ o like. meets (f .end) k w K' S' (t ∷ (r .used ++ o)) e ∙ r .again o like;
+    })
     met flat t ts is e _ (deep r) = deep (record {
-        used = t ∷ r .used; token = r .token; left = r .left; value = r .value; entries = item (t .place) ∷ r .entries; entry = r .entry; next = r .next; tokens = r .tokens
-      ; split = ap (λ o. t ∷ o) (r .split); at = r .at
-      ; spelled = inl (after (r .spelled)); fit = more (fits t is) (r .fit); fine = shallows-more (f .blocks) (f .lists) (item (t .place)) (r .entries) (flat (t .place)) (r .fine); fits = r .fits; deep = r .deep; goes-on = r .goes-on
-      ; again = λ same o. meets (f .end) k w K' S' (t ∷ (r .used ++ (r .token ∷ o))) e ∙ r .again same o })
+      used = t ∷ r .used;
+      token = r .token;
+      left = r .left;
+      value = r .value;
+      entries = item (t .place) ∷ r .entries;
+      entry = r .entry;
+      next = r .next;
+      tokens = r .tokens;
+      split = ap (λ o. t ∷ o) (r .split);
+      at = r .at;
+      spelled = inl (after (r .spelled));
+      fit = more (fits t is) (r .fit);
+      fine = shallows-more (f .blocks) (f .lists) (item (t .place)) (r .entries) (flat (t .place)) (r .fine);
+      fits = r .fits;
+      deep = r .deep;
+      goes-on = r .goes-on;
+      again = λ same o. meets (f .end) k w K' S' (t ∷ (r .used ++ (r .token ∷ o))) e ∙ r .again same o;
+    })
     met flat t ts is e _ (spent h) = spent (omega arith)
 
     -- the word is within the limits
     within : ((p : ℕ) → shallow (f .blocks) (f .lists) (item p) ≡ true) → ((p : ℕ) → Law f room (K p) (K' p) (L p)) → Law f n (on (f .end) k w K S) O' E
     within flat law = record {
-        told = on-told (λ t ts is e. met flat t ts is e (K (t .place) ts) (law (t .place) .told ts))
-      ; live = let l = other .live in record { value = l .value; entries = l .entries; tokens = l .tokens; spelled = inr (l .spelled); fit = l .fit } }
+      told = on-told (λ t ts is e. met flat t ts is e (K (t .place) ts) (law (t .place) .told ts));
+      live = let l = other .live in record { value = l .value; entries = l .entries; tokens = l .tokens; spelled = inr (l .spelled); fit = l .fit };
+    }
 
   pub on-law : {A : Type 0} {room n : ℕ} → n ≤ suc room → (k : Kind) (w : List ℕ) (item : ℕ → Spelled) → ((t : Lexeme) → Is k w t → Fits (item (t .place)) t)
       → ((p : ℕ) → shallow (f .blocks) (f .lists) (item p) ≡ true)
@@ -320,11 +434,27 @@ module _ {f : Frame} where
       → Law f n S S' M → ((x : A) → M x [] → ⊥)
       → Law f n (on (f .end) k w (λ p ts. Err (record { number = 7; place = p })) S) (on (f .end) k w K' S') (Either (After (λ _. item) (λ _. L)) M)
   forbid-law {A} {n} k w item fits sunk {K'} {S} {S'} {L} {M} l same other never = record {
-      told = on-told n n (omega arith) k w (λ _. item) fits (λ p ts. Err (record { number = 7; place = p })) K' S S' (λ _. L) M other never (λ t ts is e. deep (record {
-          used = []; token = t; left = ts; value = l .value; entries = []; entry = item; next = l .entries; tokens = l .tokens; split = refl; at = refl
-        ; spelled = inl (after {p = 0} (l .spelled)); fit = none; fine = refl; fits = fits t is; deep = sunk; goes-on = l .fit
-        ; again = λ s o. meets (f .end) k w K' S' (t ∷ o) e ∙ same s (t .place) o }))
-    ; live = let l = other .live in record { value = l .value; entries = l .entries; tokens = l .tokens; spelled = inr (l .spelled); fit = l .fit } }
+    told = on-told n n (omega arith) k w (λ _. item) fits (λ p ts. Err (record { number = 7; place = p })) K' S S' (λ _. L) M other never (λ t ts is e. deep (record {
+      used = [];
+      token = t;
+      left = ts;
+      value = l .value;
+      entries = [];
+      entry = item;
+      next = l .entries;
+      tokens = l .tokens;
+      split = refl;
+      at = refl;
+      spelled = inl (after {p = 0} (l .spelled));
+      fit = none;
+      fine = refl;
+      fits = fits t is;
+      deep = sunk;
+      goes-on = l .fit;
+      again = λ s o. meets (f .end) k w K' S' (t ∷ o) e ∙ same s (t .place) o;
+    }));
+    live = let l = other .live in record { value = l .value; entries = l .entries; tokens = l .tokens; spelled = inr (l .spelled); fit = l .fit };
+  }
 
   -- the same three, where the language that is wanted holds both ways
   module _ {A : Type 0} {n : ℕ} (k : Kind) (w : List ℕ) (T : Lang A) (never : (x : A) → T x [] → ⊥) where

@@ -12,7 +12,7 @@ use Rattle.std.specs.declared.result.Result.{Result}
 use Rattle.std.specs.declared.result.Result.the-variants.{Ok, Err}
 use Rattle.lexing.specs.declared.token.Kind.{Kind}
 use Rattle.lexing.specs.declared.token.Kind.the-variants.{Name, Keyword, Numeral, Mark}
-use Rattle.lexing.specs.Tokens.{Lexeme, Refusal, same-bytes}
+use Rattle.lexing.specs.Tokens.{Lexeme, same-bytes}
 use Rattle.lexing.specs.Texts.{tokens-of}
 use Rattle.lexing.specs.Numerals.{number-of}
 use Rattle.lexing.specs.Numbers.{kind-number, question-number}
@@ -212,10 +212,12 @@ fun-of end room lists blocks ts =
 abbrev pub funs : {A : Type 0} → ℕ → Reader A → ℕ → List Lexeme → Result (List A) Refused
 funs end function zero ts = Err (record { number = 0; place = here end ts })
 funs end function (suc room) ts = elim (function ts) [
-    Err e ↦ Err e
+  | Err e ↦ Err e
   | Ok (f, left) ↦ elim left [
-      [] ↦ Ok (f ∷ [])
-    | t ∷ more ↦ elim (funs end function room (t ∷ more)) [ Ok fs ↦ Ok (f ∷ fs) | Err e ↦ Err e ] ] ]
+    | [] ↦ Ok (f ∷ [])
+    | t ∷ more ↦ elim (funs end function room (t ∷ more)) [ Ok fs ↦ Ok (f ∷ fs) | Err e ↦ Err e ]
+  ]
+]
 
 -- the script of tokens, with limits for lists and blocks
 abbrev pub script-of : ℕ → ℕ → ℕ → ℕ → List Lexeme → Result Script Refused
@@ -224,5 +226,6 @@ script-of end room lists blocks ts = funs end (fun-of end room lists blocks) roo
 -- the answer of reading a text: questions 1 to 5 of its tokens, then 6 and 7
 abbrev pub reading : List ℕ → Result Script Refused
 reading s = elim (tokens-of s) [
-    Err e ↦ Err (record { number = question-number (e .question); place = e .place })
-  | Ok ts ↦ script-of (length s) (suc (length ts)) most-lists most-blocks ts ]
+  | Err e ↦ Err (record { number = question-number (e .question); place = e .place })
+  | Ok ts ↦ script-of (length s) (suc (length ts)) most-lists most-blocks ts
+]

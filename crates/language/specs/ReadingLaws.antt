@@ -22,7 +22,7 @@ Spells-one = (ts : List Lexeme) (s s' : Script) → Spells ts s → Spells ts s'
 abbrev pub Reads-spelled : Type 0
 Reads-spelled = (text : List ℕ) (s : Script) →
     (reading text ≡ Ok s → (ts : List Lexeme) × (tokens-of text ≡ Ok ts) × Spells ts s × Within s)
-  × ((ts : List Lexeme) → tokens-of text ≡ Ok ts → Spells ts s → Within s → reading text ≡ Ok s)
+    × ((ts : List Lexeme) → tokens-of text ≡ Ok ts → Spells ts s → Within s → reading text ≡ Ok s)
 
 -- tokens begin the spelling of some script, `next` is what comes then, and no block and no list that the tokens open nests too deep
 pub record Begun (before : List Lexeme) (next : List Spelled) : Type 0 where
