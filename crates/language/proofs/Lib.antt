@@ -20,3 +20,12 @@ pub mod Exhausted
 pub mod References
 pub mod Striking
 pub mod CallsKeep
+pub mod Fitting
+pub mod Told
+pub mod Parts
+pub mod Blocks
+pub mod Complete
+pub mod Scripts
+pub mod Places
+pub mod Readings
+pub mod Rooms

@@ -22,3 +22,5 @@ pub mod Reads
 pub mod RunLaws
 pub mod RunScripts
 pub mod RunExamples
+pub mod ReadingLaws
+pub mod ReadingExamples

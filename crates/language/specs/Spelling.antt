@@ -59,10 +59,13 @@ abbrev pub spell-regions : List Ident → List Spelled → List Spelled
 spell-regions [] after = after
 spell-regions (r ∷ rs) after = mark (codes "[") ∷ spell-commas spell-name r rs (mark (codes "]") ∷ after)
 
--- a list in parentheses, which may be empty
+-- a list in parentheses, which may be empty, and what stands behind the opening one
+abbrev pub spell-elements : {A : Type 0} → (A → List Spelled → List Spelled) → List A → List Spelled → List Spelled
+spell-elements spell [] after = mark (codes ")") ∷ after
+spell-elements spell (x ∷ xs) after = spell-commas spell x xs (mark (codes ")") ∷ after)
+
 abbrev pub spell-list : {A : Type 0} → (A → List Spelled → List Spelled) → List A → List Spelled → List Spelled
-spell-list spell [] after = mark (codes "(") ∷ mark (codes ")") ∷ after
-spell-list spell (x ∷ xs) after = mark (codes "(") ∷ spell-commas spell x xs (mark (codes ")") ∷ after)
+spell-list spell xs after = mark (codes "(") ∷ spell-elements spell xs after
 
 -- a type whose outermost `list`, if it has one, is the `depth`-th one around
 abbrev pub spell-type : ℕ → Ty → List Spelled → List Spelled

@@ -1,0 +1,5 @@
+use Rattle.language.proofs.Readings.{reads-spelled}
+use Rattle.language.proofs.grammar.reads_spelled.Needs as need
+
+pub returns : need.returns
+returns c = reads-spelled

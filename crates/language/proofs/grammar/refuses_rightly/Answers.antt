@@ -1,0 +1,5 @@
+use Rattle.language.proofs.Readings.{refuses-rightly}
+use Rattle.language.proofs.grammar.refuses_rightly.Needs as need
+
+pub returns : need.returns
+returns c = refuses-rightly

@@ -1,0 +1,5 @@
+use Rattle.language.proofs.Readings.{spells-one}
+use Rattle.language.proofs.grammar.spells_one.Needs as need
+
+pub returns : need.returns
+returns c = spells-one
