@@ -20,10 +20,10 @@ pub fn since(rt: &LibcRuntime, start: Instant) -> Result<u64, AnyError> {
     Ok(u64::try_from(nanos).unwrap_or(u64::MAX))
 }
 
-// Prints whether a case came out as it should: what does not grow stays within six times and a little more, what
-// grows is beyond three times.
+// Prints whether a case came out as it should: what does not grow stays within four times and what the clock itself
+// may take, what grows is beyond three times.
 pub fn tell(rt: &LibcRuntime, timed: bool, case: Case) -> Result<(), AnyError> {
-    let flat = case.large <= case.small.saturating_mul(6).saturating_add(300);
+    let flat = case.large <= case.small.saturating_mul(4).saturating_add(50);
     let steep = case.large >= case.small.saturating_mul(3);
     let name = case.name;
     match (case.grows, flat, steep) {
@@ -34,8 +34,8 @@ pub fn tell(rt: &LibcRuntime, timed: bool, case: Case) -> Result<(), AnyError> {
     if timed {
         let small = case.small;
         let large = case.large;
-        let percent = large.saturating_mul(100) / small.max(1);
-        println!(rt, "    {small} ns and {large} ns, {percent} in the hundred")?;
+        let tenths = large.saturating_mul(10) / small.max(1);
+        println!(rt, "    {small} ns, {large} ns: {}.{} times", tenths / 10, tenths % 10)?;
     }
     Ok(())
 }
