@@ -32,7 +32,12 @@ fn two<S: RegionStore>(store: &mut S, words: usize) {
 }
 
 // Gets the words around a place again and again; the sum is returned, so that it has to be done.
-fn gets<S: RegionStore>(rt: &LibcRuntime, store: &S, position: usize, place: usize) -> Result<(u64, u32), AnyError> {
+fn gets<S: RegionStore>(
+    rt: &LibcRuntime,
+    store: &S,
+    position: usize,
+    place: usize,
+) -> Result<(u64, u32), AnyError> {
     let mut best = u64::MAX;
     let mut sum = 0u32;
     for _ in 0..ROUNDS {
@@ -48,7 +53,12 @@ fn gets<S: RegionStore>(rt: &LibcRuntime, store: &S, position: usize, place: usi
 }
 
 // Puts at `position`, a store of two regions being made anew for each round.
-fn puts<S: RegionStore>(rt: &LibcRuntime, store: &mut S, words: usize, turns: usize) -> Result<u64, AnyError> {
+fn puts<S: RegionStore>(
+    rt: &LibcRuntime,
+    store: &mut S,
+    words: usize,
+    turns: usize,
+) -> Result<u64, AnyError> {
     let mut best = u64::MAX;
     for _ in 0..ROUNDS {
         two(store, words);
@@ -62,7 +72,12 @@ fn puts<S: RegionStore>(rt: &LibcRuntime, store: &mut S, words: usize, turns: us
 }
 
 // Closes four regions of so many words each, or clears a store of them.
-fn drops<S: RegionStore>(rt: &LibcRuntime, store: &mut S, words: usize, whole: bool) -> Result<u64, AnyError> {
+fn drops<S: RegionStore>(
+    rt: &LibcRuntime,
+    store: &mut S,
+    words: usize,
+    whole: bool,
+) -> Result<u64, AnyError> {
     let mut best = u64::MAX;
     for _ in 0..ROUNDS {
         store.clear();
@@ -84,26 +99,72 @@ fn drops<S: RegionStore>(rt: &LibcRuntime, store: &mut S, words: usize, whole: b
 }
 
 // What holds of every store: `most` is a number of words that it can hold.
-pub fn store_cases<S: RegionStore>(rt: &LibcRuntime, timed: bool, store: &mut S, most: usize) -> Result<(), AnyError> {
+pub fn store_cases<S: RegionStore>(
+    rt: &LibcRuntime,
+    timed: bool,
+    store: &mut S,
+    most: usize,
+) -> Result<(), AnyError> {
     two(store, 16);
     let (small, few) = gets(rt, store, 1, 8)?;
     two(store, most);
     let (large, many) = gets(rt, store, 1, 8)?;
     let same = if few == many { large } else { u64::MAX };
-    tell(rt, timed, Case { name: "get at the top, with the words held", grows: false, small, large: same })?;
+    tell(
+        rt,
+        timed,
+        Case {
+            name: "get at the top, with the words held",
+            grows: false,
+            small,
+            large: same,
+        },
+    )?;
     let small = puts(rt, store, 16, 200)?;
     let large = puts(rt, store, most, 200)?;
-    tell(rt, timed, Case { name: "put at the top, with the words held", grows: false, small, large })?;
+    tell(
+        rt,
+        timed,
+        Case {
+            name: "put at the top, with the words held",
+            grows: false,
+            small,
+            large,
+        },
+    )?;
     let small = drops(rt, store, 16, false)?;
     let large = drops(rt, store, most / 4, false)?;
-    tell(rt, timed, Case { name: "close, with the words closed", grows: false, small, large })?;
+    tell(
+        rt,
+        timed,
+        Case {
+            name: "close, with the words closed",
+            grows: false,
+            small,
+            large,
+        },
+    )?;
     let small = drops(rt, store, 16, true)?;
     let large = drops(rt, store, most / 4, true)?;
-    tell(rt, timed, Case { name: "clear, with the words removed", grows: false, small, large })
+    tell(
+        rt,
+        timed,
+        Case {
+            name: "clear, with the words removed",
+            grows: false,
+            small,
+            large,
+        },
+    )
 }
 
 // Puts into the region at position 1 of three, with so many words in the regions below and above it.
-fn low_puts(rt: &LibcRuntime, arena: &mut Arena, below: usize, above: usize) -> Result<u64, AnyError> {
+fn low_puts(
+    rt: &LibcRuntime,
+    arena: &mut Arena,
+    below: usize,
+    above: usize,
+) -> Result<u64, AnyError> {
     let mut best = u64::MAX;
     for _ in 0..ROUNDS {
         two(arena, below);
@@ -122,9 +183,27 @@ fn low_puts(rt: &LibcRuntime, arena: &mut Arena, below: usize, above: usize) -> 
 pub fn arena_cases(rt: &LibcRuntime, timed: bool, arena: &mut Arena) -> Result<(), AnyError> {
     let small = low_puts(rt, arena, 16, 1000)?;
     let large = low_puts(rt, arena, 16, 32000)?;
-    tell(rt, timed, Case { name: "put below, with the words above", grows: true, small, large })?;
+    tell(
+        rt,
+        timed,
+        Case {
+            name: "put below, with the words above",
+            grows: true,
+            small,
+            large,
+        },
+    )?;
     let large = low_puts(rt, arena, 32000, 1000)?;
-    tell(rt, timed, Case { name: "put below, with the words below it", grows: false, small, large })
+    tell(
+        rt,
+        timed,
+        Case {
+            name: "put below, with the words below it",
+            grows: false,
+            small,
+            large,
+        },
+    )
 }
 
 // What holds of a page store: a get walks from the newest page back to the word's.
@@ -135,6 +214,24 @@ pub fn page_cases(rt: &LibcRuntime, timed: bool, pages: &mut Pages) -> Result<()
     let (small, _) = gets(rt, pages, 0, 4088)?;
     let (half, _) = gets(rt, pages, 0, 2048)?;
     let (large, _) = gets(rt, pages, 0, 0)?;
-    tell(rt, timed, Case { name: "get in a chain, with half of its pages walked", grows: true, small, large: half })?;
-    tell(rt, timed, Case { name: "get in a chain, with all of its pages walked", grows: true, small, large })
+    tell(
+        rt,
+        timed,
+        Case {
+            name: "get in a chain, with half of its pages walked",
+            grows: true,
+            small,
+            large: half,
+        },
+    )?;
+    tell(
+        rt,
+        timed,
+        Case {
+            name: "get in a chain, with all of its pages walked",
+            grows: true,
+            small,
+            large,
+        },
+    )
 }

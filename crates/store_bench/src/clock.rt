@@ -35,7 +35,12 @@ pub fn tell(rt: &LibcRuntime, timed: bool, case: Case) -> Result<(), AnyError> {
         let small = case.small;
         let large = case.large;
         let tenths = large.saturating_mul(10) / small.max(1);
-        println!(rt, "    {small} ns, {large} ns: {}.{} times", tenths / 10, tenths % 10)?;
+        println!(
+            rt,
+            "    {small} ns, {large} ns: {}.{} times",
+            tenths / 10,
+            tenths % 10
+        )?;
     }
     Ok(())
 }

@@ -1,7 +1,7 @@
 // What the operations of a store cost, as ratios within one run. Without an argument it prints a verdict for each
 // case; with one it prints the times and ratios too.
-mod clock;
 mod cases;
+mod clock;
 
 use crate::cases::arena_cases;
 use crate::cases::page_cases;
@@ -17,6 +17,7 @@ use std::error::AnyError;
 
 // The memory of an arena, and the pages of a page store.
 const WORDS: usize = 65536;
+
 const PAGES: usize = 256;
 
 fn bench(rt: &LibcRuntime, timed: bool) -> Result<(), AnyError> {

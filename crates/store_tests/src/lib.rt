@@ -39,10 +39,19 @@ mod tests {
         let heap = rt.alloc();
         check_eq(second_pair(&mut Arena::new(vec![in heap; 0u32; 4]?)), 2)?;
         check_eq(second_pair(&mut Arena::new(vec![in heap; 0u32; 3]?)), 25)?;
-        check_eq(second_pair(&mut Quota::over(Arena::new(vec![in heap; 0u32; 4]?), 2)), 25)?;
-        check_eq(second_pair(&mut Quota::over(Quota::over(Arena::new(vec![in heap; 0u32; 4]?), 3), 9)), 25)?;
+        check_eq(
+            second_pair(&mut Quota::over(Arena::new(vec![in heap; 0u32; 4]?), 2)),
+            25,
+        )?;
+        check_eq(
+            second_pair(&mut Quota::over(Quota::over(Arena::new(vec![in heap; 0u32; 4]?), 3), 9)),
+            25,
+        )?;
         check_eq(second_pair(&mut Pages::new(1)), 2)?;
-        check_eq(second_pair(&mut Quota::over(Quota::over(Pages::new(1), 4), 5)), 2)
+        check_eq(
+            second_pair(&mut Quota::over(Quota::over(Pages::new(1), 4), 5)),
+            2,
+        )
     }
 
     // A low region grows, and the words above it stay what they were.
@@ -56,7 +65,10 @@ mod tests {
 
     #[test]
     fn growing_below_keeps_what_is_above(rt: LibcRuntime) -> Result<(), Fail> {
-        check_eq(low_growth(&mut Arena::new(vec![in rt.alloc(); 0u32; 8]?)), (7, 8, 6))?;
+        check_eq(
+            low_growth(&mut Arena::new(vec![in rt.alloc(); 0u32; 8]?)),
+            (7, 8, 6),
+        )?;
         check_eq(low_growth(&mut Pages::new(2)), (7, 8, 6))
     }
 
