@@ -1,11 +1,10 @@
 -- How a stretch of words is cut into regions. Assumes nothing.
 use mathlib.Core.Path.{_≡_, refl, sym, ap, _∙_}
 use mathlib.Core.List.{List, [], _∷_, _++_}
-use Prim.Native.Nat.{ℕ, zero, suc, _+_, _-_, _≤_, _<_, min}
+use Prim.Native.Nat.{ℕ, zero, suc, _+_, _-_, _≤_, _<_}
 use native.Mathlib.Omega.{arith}
-use native.Mathlib.Numerals.{add-one}
 use lib.ListN.{length, getD, set, take, drop}
-use Rattle.std.proofs.shelf.Lists.{take-more, length-take, length-drop, length-append, take-append-le, append-assoc, drop-append-le, take-at, drop-at, take-take, drop-take, drop-drop, length-take-le, append-nil, ext-getD, getD-take, getD-drop, getD-append-left, getD-append-right}
+use Rattle.std.proofs.shelf.Lists.{take-more, length-take, length-drop, length-append, take-append-le, append-assoc, drop-append-le, take-at, drop-at, take-take, drop-take, drop-drop, length-take-le, ext-getD, getD-take, getD-drop, getD-append-left, getD-append-right}
 use Rattle.std.proofs.shelf.Tests.{cases-lt}
 use mathlib.Core.Logic.{⊎-elim}
 use Rattle.regions.specs.Rules.{total}
@@ -64,10 +63,10 @@ pub split-same : (ls xs ys : List ℕ) → take (total ls) xs ≡ take (total ls
 split-same [] xs ys e = refl
 split-same (l ∷ ls) xs ys e =
     let head : take l xs ≡ take l ys =
-      sym (take-take l (l + total ls) xs (omega arith)) ∙ ap (take l) e ∙ take-take l (l + total ls) ys (omega arith)
+    sym (take-take l (l + total ls) xs (omega arith)) ∙ ap (take l) e ∙ take-take l (l + total ls) ys (omega arith)
     in
     let tail : take (total ls) (drop l xs) ≡ take (total ls) (drop l ys) =
-      sym (drop-take l (total ls) xs) ∙ ap (drop l) e ∙ drop-take l (total ls) ys
+    sym (drop-take l (total ls) xs) ∙ ap (drop l) e ∙ drop-take l (total ls) ys
     in
     rw (head, split-same ls (drop l xs) (drop l ys) tail)
 
@@ -87,10 +86,10 @@ split-put (l ∷ ls) ws (suc p) new h f =
     let le : t ≤ length (drop l ws) = omega (arith, total-take (suc p) ls, length-drop l ws) in
     let n : l ≤ length (take (l + t) ws) = omega (arith, length-take (l + t) ws, length-drop l ws) in
     let a : take l (take (l + t) ws ++ (new ++ drop (l + t) ws)) ≡ take l ws =
-      take-append-le l (take (l + t) ws) (new ++ drop (l + t) ws) n ∙ take-take l (l + t) ws (omega arith)
+    take-append-le l (take (l + t) ws) (new ++ drop (l + t) ws) n ∙ take-take l (l + t) ws (omega arith)
     in
     let b : drop l (take (l + t) ws ++ (new ++ drop (l + t) ws)) ≡ take t (drop l ws) ++ (new ++ drop t (drop l ws)) =
-      drop-append-le l (take (l + t) ws) (new ++ drop (l + t) ws) n ∙ ap (λ xs. xs ++ (new ++ drop (l + t) ws)) (drop-take l t ws) ∙ ap (λ xs. take t (drop l ws) ++ (new ++ xs)) (sym (drop-drop t l ws))
+    drop-append-le l (take (l + t) ws) (new ++ drop (l + t) ws) n ∙ ap (λ xs. xs ++ (new ++ drop (l + t) ws)) (drop-take l t ws) ∙ ap (λ xs. take t (drop l ws) ++ (new ++ xs)) (sym (drop-drop t l ws))
     in
     let ih = split-put ls (drop l ws) p new (omega arith) (omega (arith, length-drop l ws)) in
     rw (a, b) (ap (λ rs. take l ws ∷ rs) ih)
@@ -108,31 +107,30 @@ inserted-words ws vs new e u le fits same low mid high =
     let n = length new in
     let te : length (take e ws) ≡ e = length-take-le e ws (omega arith) in
     let all : length (take e ws ++ (new ++ drop e ws)) ≡ length ws + n =
-      omega (arith, length-append (take e ws) (new ++ drop e ws), length-append new (drop e ws), length-drop e ws)
+    omega (arith, length-append (take e ws) (new ++ drop e ws), length-append new (drop e ws), length-drop e ws)
     in
     let long : length (take (u + n) vs) ≡ u + n = length-take-le (u + n) vs (omega arith) in
     let right : (k : ℕ) → k < u + n → getD vs k 0 ≡ getD (take e ws ++ (new ++ drop e ws)) k 0 =
-      λ k h.
-        ⊎-elim
-        (λ (lt : k < e).
-          let lt′ : k < length (take e ws) = omega arith in
-          low k lt ∙ sym (getD-take e ws k 0 lt) ∙ sym (getD-append-left (take e ws) (new ++ drop e ws) 0 k lt′))
-        (λ (ge : e ≤ k).
-          let at = getD-append-right (take e ws) (new ++ drop e ws) e k 0 te ge in
-          ⊎-elim
-          (λ (lt : k - e < n).
-            let back : e + (k - e) ≡ k = omega arith in
-            ap (λ i. getD vs i 0) (sym back) ∙ mid (k - e) lt ∙ sym (getD-append-left new (drop e ws) 0 (k - e) lt) ∙ sym at)
-          (λ (ge′ : n ≤ k - e).
-            let back : k - n + n ≡ k = omega arith in
-            let there : e + (k - e - n) ≡ k - n = omega arith in
-            ap (λ i. getD vs i 0) (sym back) ∙ high (k - n) (omega arith) (omega arith) ∙ ap (λ i. getD ws i 0) (sym there)
-            ∙ sym (getD-drop e ws (k - e - n) 0) ∙ sym (getD-append-right new (drop e ws) n (k - e) 0 refl ge′) ∙ sym at)
-          (cases-lt (k - e) n))
-        (cases-lt k e)
+    λ k h.
+    ⊎-elim
+    (λ (lt : k < e).
+    let lt′ : k < length (take e ws) = omega arith in
+    low k lt ∙ sym (getD-take e ws k 0 lt) ∙ sym (getD-append-left (take e ws) (new ++ drop e ws) 0 k lt′))
+    (λ (ge : e ≤ k).
+    let at = getD-append-right (take e ws) (new ++ drop e ws) e k 0 te ge in
+    ⊎-elim
+    (λ (lt : k - e < n).
+    let back : e + (k - e) ≡ k = omega arith in
+    ap (λ i. getD vs i 0) (sym back) ∙ mid (k - e) lt ∙ sym (getD-append-left new (drop e ws) 0 (k - e) lt) ∙ sym at)
+    (λ (ge′ : n ≤ k - e).
+    let back : k - n + n ≡ k = omega arith in
+    let there : e + (k - e - n) ≡ k - n = omega arith in
+    ap (λ i. getD vs i 0) (sym back) ∙ high (k - n) (omega arith) (omega arith) ∙ ap (λ i. getD ws i 0) (sym there)
+    ∙ sym (getD-drop e ws (k - e - n) 0) ∙ sym (getD-append-right new (drop e ws) n (k - e) 0 refl ge′) ∙ sym at)
+    (cases-lt (k - e) n))
+    (cases-lt k e)
     in
     ext-getD 0 _ _ (long ∙ sym (length-take-le (u + n) _ (omega arith)))
     (λ k h.
-      let h′ : k < u + n = omega (arith, long) in
-      getD-take (u + n) vs k 0 h′ ∙ right k h′ ∙ sym (getD-take (u + n) _ k 0 h′))
-
+    let h′ : k < u + n = omega (arith, long) in
+    getD-take (u + n) vs k 0 h′ ∙ right k h′ ∙ sym (getD-take (u + n) _ k 0 h′))

@@ -1,8 +1,7 @@
 -- What an arena's lengths and words, ls and ws, say of each operation. Assumes nothing.
-use mathlib.Core.Path.{_≡_, refl, sym, ap, _∙_}
+use mathlib.Core.Path.{_≡_, sym, ap, _∙_}
 use mathlib.Core.List.{List, [], _∷_, _++_}
-use mathlib.Core.Bool.{true, false}
-use Prim.Native.Nat.{ℕ, zero, suc, _+_, _-_, _≤_, _<_}
+use Prim.Native.Nat.{ℕ, suc, _+_, _-_, _≤_, _<_}
 use native.Mathlib.Omega.{arith}
 use lib.ListN.{length, getD, set, take, drop}
 use lib.Dec.{leb}
@@ -10,7 +9,7 @@ use Rattle.std.specs.declared.result.Result.the-variants.{Ok, Err}
 use Rattle.std.proofs.shelf.Lists.{length-push, length-set, length-take-le, getD-take, getD-drop, take-take}
 use Rattle.std.proofs.shelf.Tests.{le-leb, lt-leb}
 use Rattle.regions.specs.declared.refusal.Refusal.the-variants.{Denied, NoRegion, NoWord}
-use Rattle.regions.specs.Model.{lengths, region, longer, may-open, open-answer, open-after, may-put, put-answer, put-after, get-answer, close-answer, close-after}
+use Rattle.regions.specs.Model.{region, longer, may-open, open-answer, open-after, may-put, put-answer, put-after, get-answer, close-answer, close-after}
 use Rattle.regions.specs.Rules.{total, capacity, arena-rule}
 use Rattle.regions.proofs.Bounds.{and-true, lengths-at}
 use Rattle.regions.proofs.Answered as cases
@@ -71,14 +70,15 @@ module _ (ls ws : List ℕ) (n : ℕ) (fits : total ls ≤ capacity n) (all : n 
     pub get-word : p < length ls → i < getD ls p 0 → get-answer (split ls ws) p i ≡ Ok (getD ws (total (take p ls) + i) 0)
     get-word h l =
         let word : getD (region (split ls ws) p) i 0 ≡ getD ws (total (take p ls) + i) 0 =
-          ap (λ xs. getD xs i 0) (split-at ls ws p h) ∙ getD-take (getD ls p 0) (drop (total (take p ls)) ws) i 0 l ∙ getD-drop (total (take p ls)) ws i 0
+        ap (λ xs. getD xs i 0) (split-at ls ws p h) ∙ getD-take (getD ls p 0) (drop (total (take p ls)) ws) i 0 l ∙ getD-drop (total (take p ls)) ws i 0
         in
         cases.get-word (split ls ws) p i (omega (arith, length-split ls ws)) (omega (arith, region-length ls ws p h in-words)) ∙ ap Ok word
 
   pub close-some : 0 < length ls → (close-answer (split ls ws) ≡ Ok tt) × (close-after (split ls ws) ≡ split (take (length ls - 1) ls) ws)
-  close-some h =
-      (cases.close-some (split ls ws) (omega (arith, length-split ls ws)),
-       ap (λ m. take (m - 1) (split ls ws)) (length-split ls ws) ∙ sym (split-take (length ls - 1) ls ws))
+  close-some h = (
+    cases.close-some (split ls ws) (omega (arith, length-split ls ws)),
+    ap (λ m. take (m - 1) (split ls ws)) (length-split ls ws) ∙ sym (split-take (length ls - 1) ls ws),
+  )
 
 -- the regions after words were put in at the end of one
 pub put-made : (ls ws vs new : List ℕ) (p : ℕ) → p < length ls → total ls + length new ≤ length ws → length vs ≡ length ws → ((k : ℕ) → k < total (take p ls) + getD ls p 0 → getD vs k 0 ≡ getD ws k 0) → ((k : ℕ) → k < length new → getD vs (total (take p ls) + getD ls p 0 + k) 0 ≡ getD new k 0) → ((k : ℕ) → total (take p ls) + getD ls p 0 ≤ k → k < total ls → getD vs (k + length new) 0 ≡ getD ws k 0) → split (longer ls p (length new)) vs ≡ set (split ls ws) p (region (split ls ws) p ++ new)
@@ -89,7 +89,7 @@ put-made ls ws vs new p h room same low mid high =
     let le : e ≤ total ls = omega (arith, end, total-take (suc p) ls) in
     let sum : total (longer ls p (length new)) ≡ total ls + length new = total-set ls p (length new) h in
     let words : take (total ls + length new) vs ≡ take (total ls + length new) (take e ws ++ (new ++ drop e ws)) =
-      inserted-words ws vs new e (total ls) le room same low mid high
+    inserted-words ws vs new e (total ls) le room same low mid high
     in
     split-same (longer ls p (length new)) vs (take e ws ++ (new ++ drop e ws)) (rw sum words)
     ∙ ap (λ n. split (longer ls p (length new)) (take n ws ++ (new ++ drop n ws))) (sym end)
@@ -121,6 +121,6 @@ module _ (table ws ss vs new : List ℕ) (count p e : ℕ) (few : count ≤ leng
   words-made =
       ap (λ xs. split xs vs) (used-longer table count few p (length new) here)
       ∙ put-made (take count table) ws vs new p (omega (arith, used-length table count few)) room (same′ ∙ same)
-        (λ k h. low′ k (omega (arith, at-e)) ∙ low k (omega (arith, at-e)))
-        (λ k h. ap (λ i. getD vs (i + k) 0) at-e ∙ mid′ k h)
-        (λ k g h. high′ (k + length new) (omega (arith, at-e)) ∙ high k (omega (arith, at-e)) h)
+      (λ k h. low′ k (omega (arith, at-e)) ∙ low k (omega (arith, at-e)))
+      (λ k h. ap (λ i. getD vs (i + k) 0) at-e ∙ mid′ k h)
+      (λ k g h. high′ (k + length new) (omega (arith, at-e)) ∙ high k (omega (arith, at-e)) h)

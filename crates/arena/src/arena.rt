@@ -83,7 +83,11 @@ impl Arena {
     pub fn into_memory(self) -> Vec<u32>
         ensures { λ r. ⌜ r ≡ self .memory ⌝ }
     {
-        let Arena { memory, lens: _, count: _ } = self;
+        let Arena {
+            memory,
+            lens: _,
+            count: _,
+        } = self;
         memory
     }
 

@@ -1,18 +1,17 @@
 -- How many pages lengths take, and what the rule grants. Assumes nothing.
 use mathlib.Core.Path.{_≡_, refl, sym, ap, _∙_}
-use mathlib.Core.List.{List, [], _∷_, _++_, map}
-use mathlib.Core.Bool.{Bool, true, false, cond, _&&_}
-use Prim.Native.Nat.{ℕ, zero, suc, _+_, _-_, _*_, _/_, _≤_, _<_}
+use mathlib.Core.List.{List, [], _∷_, _++_}
+use Prim.Native.Nat.{ℕ, zero, suc, _+_, _≤_, _<_}
 use native.Mathlib.Omega.{arith}
-use lib.ListN.{length, getD, set, take}
+use lib.ListN.{length, getD, take}
 use lib.Dec.{leb}
-use Rattle.std.proofs.shelf.Lists.{length-push, length-set, length-take-le, getD-take, getD-map, length-map, take-map, ext-getD}
+use Rattle.std.proofs.shelf.Lists.{length-take-le, getD-take, getD-map, length-map, take-map, ext-getD}
 use Rattle.std.proofs.shelf.Tests.{le-leb, lt-leb, cases-lt}
 use mathlib.Core.Logic.{⊎-elim}
 use Rattle.regions.specs.Model.{lengths, region}
 use Rattle.regions.specs.Rules.{pages-of, pages-total}
 use Rattle.pages.specs.Chain.{walk, chains, holds}
-use Rattle.pages.proofs.Links.{pages-set, Once}
+use Rattle.pages.proofs.Links.{Once}
 use Rattle.pages.proofs.Words.{held-length, many, length-contents}
 
 pub pages-append : (xs ys : List ℕ) → pages-total (xs ++ ys) ≡ pages-total xs + pages-total ys
@@ -38,8 +37,8 @@ module _ (ws next ts ls : List ℕ) (f n : ℕ) (wide : length ws ≡ 4096) (lin
       let n′ : length (lengths (holds ws next ts ls)) ≡ 64 = length-map (holds ws next ts ls) length ∙ all-held in
       ext-getD 0 _ _ (n′ ∙ sym slots′)
       (λ i h.
-        let h′ : i < 64 = omega arith in
-        getD-map length (holds ws next ts ls) i [] 0 (omega (arith, all-held)) ∙ held-length ws next ts ls f n wide links slots slots′ once i h′)
+      let h′ : i < 64 = omega arith in
+      getD-map length (holds ws next ts ls) i [] 0 (omega (arith, all-held)) ∙ held-length ws next ts ls f n wide links slots slots′ once i h′)
 
   pub lengths-are : (c : ℕ) → lengths (take c (holds ws next ts ls)) ≡ take c ls
   lengths-are c = sym (take-map length c (holds ws next ts ls)) ∙ ap (take c) held-lengths
@@ -54,7 +53,6 @@ pub pages-take : (n : ℕ) (ls : List ℕ) → pages-total (take n ls) ≤ pages
 pages-take zero ls = omega arith
 pages-take (suc n) [] = omega arith
 pages-take (suc n) (l ∷ ls) = omega (arith, pages-take n ls)
-
 
 -- two comparisons that differ by what stands on both sides
 pub leb-moved : (a b c d t o : ℕ) → a + o ≡ t + c → b + o ≡ t + d → leb a b ≡ leb c d

@@ -1,9 +1,9 @@
 -- The oldest page of each chain is on record. Assumes nothing.
-use mathlib.Core.Path.{_≡_, refl, sym, ap, subst, _∙_}
+use mathlib.Core.Path.{_≡_, refl, sym, ap, _∙_}
 use mathlib.Core.List.{List, [], _∷_}
 use mathlib.Core.Bool.{cond}
 use mathlib.Core.Logic.{⊎-elim}
-use Prim.Native.Nat.{ℕ, zero, suc, _+_, _-_, _%_, _≤_, _<_}
+use Prim.Native.Nat.{ℕ, zero, suc, _-_, _<_}
 use native.Mathlib.Omega.{arith}
 use lib.ListN.{length, getD, set, replicate}
 use lib.Dec.{eqb}
@@ -37,20 +37,20 @@ module _ (cs : List (List ℕ)) (bs : List ℕ) (p : ℕ) (here : p < length cs)
       let c = getD cs p [] in
       let v : ℕ = cond (eqb l 0) f (getD bs p 0) in
       let at-p : v ≡ oldest (f ∷ c) =
-        ⊎-elim
-        (λ (e : l ≡ 0). ap (λ b. cond b f (getD bs p 0)) (eq-eqb l 0 e) ∙ sym (oldest-one f c (len ∙ ap pages-of e)))
-        (λ (ne : l ≡ 0 → ⊥).
-          let some : 0 < length c = omega (arith, len, above l ne) in
-          ap (λ b. cond b f (getD bs p 0)) (ne-eqb l 0 ne) ∙ ends p some ∙ sym (oldest-cons f c some))
-        (cases-eq l 0)
+      ⊎-elim
+      (λ (e : l ≡ 0). ap (λ b. cond b f (getD bs p 0)) (eq-eqb l 0 e) ∙ sym (oldest-one f c (len ∙ ap pages-of e)))
+      (λ (ne : l ≡ 0 → ⊥).
+      let some : 0 < length c = omega (arith, len, above l ne) in
+      ap (λ b. cond b f (getD bs p 0)) (ne-eqb l 0 ne) ∙ ends p some ∙ sym (oldest-cons f c some))
+      (cases-eq l 0)
       in
       ⊎-elim
       (λ (e : i ≡ p) _.
-        ap (λ k. getD (set bs p v) k 0) e ∙ getD-set-same bs p v 0 there ∙ at-p
-        ∙ sym (ap (λ k. oldest (getD (set cs p (f ∷ c)) k [])) e ∙ ap oldest (getD-set-same cs p (f ∷ c) [] here)))
+      ap (λ k. getD (set bs p v) k 0) e ∙ getD-set-same bs p v 0 there ∙ at-p
+      ∙ sym (ap (λ k. oldest (getD (set cs p (f ∷ c)) k [])) e ∙ ap oldest (getD-set-same cs p (f ∷ c) [] here)))
       (λ (ne : i ≡ p → ⊥) some.
-        let other : getD (set cs p (f ∷ c)) i [] ≡ getD cs i [] = getD-set-other cs p i (f ∷ c) [] ne in
-        getD-set-other bs p i v 0 ne ∙ ends i (omega (arith, ap length other)) ∙ ap oldest (sym other))
+      let other : getD (set cs p (f ∷ c)) i [] ≡ getD cs i [] = getD-set-other cs p i (f ∷ c) [] ne in
+      getD-set-other bs p i v 0 ne ∙ ends i (omega (arith, ap length other)) ∙ ap oldest (sym other))
       (cases-eq i p)
 
   -- the chain at p given back
@@ -59,8 +59,8 @@ module _ (cs : List (List ℕ)) (bs : List ℕ) (p : ℕ) (here : p < length cs)
       ⊎-elim
       (λ (e : i ≡ p) some. absurd (omega (arith, ap (λ k. length (getD (set cs p []) k [])) e, ap length (getD-set-same cs p [] [] here))))
       (λ (ne : i ≡ p → ⊥) some.
-        let other : getD (set cs p []) i [] ≡ getD cs i [] = getD-set-other cs p i [] [] ne in
-        ends i (omega (arith, ap length other)) ∙ ap oldest (sym other))
+      let other : getD (set cs p []) i [] ≡ getD cs i [] = getD-set-other cs p i [] [] ne in
+      ends i (omega (arith, ap length other)) ∙ ap oldest (sym other))
       (cases-eq i p)
 
 -- no chain has a page

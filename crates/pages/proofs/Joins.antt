@@ -1,16 +1,15 @@
 -- A whole chain given back to the free list by one link. Assumes nothing.
 use mathlib.Core.Path.{_≡_, refl, sym, ap, subst, _∙_}
 use mathlib.Core.List.{List, [], _∷_, _++_}
-use mathlib.Core.Bool.{Bool, true, false, cond}
-use Prim.Native.Nat.{ℕ, zero, suc, _+_, _-_, _*_, _/_, _≤_, _<_}
+use mathlib.Core.Bool.{cond}
+use Prim.Native.Nat.{ℕ, zero, suc, _+_, _-_, _≤_, _<_}
 use native.Mathlib.Omega.{arith}
 use lib.ListN.{length, getD, set, take}
-use lib.Dec.{eqb}
-use Rattle.std.proofs.shelf.Lists.{getD-set-same, getD-set-other, take-set, length-set}
+use Rattle.std.proofs.shelf.Lists.{getD-set-same, getD-set-other, take-set}
 use Rattle.std.proofs.shelf.Tests.{eq-eqb, cases-lt}
 use mathlib.Core.Logic.{⊎-elim}
-use Rattle.regions.specs.Rules.{pages-of, pages-total}
-use Rattle.pages.specs.Chain.{walk, chains, times, times-in, at-most, contents, gather, holds}
+use Rattle.regions.specs.Rules.{pages-of}
+use Rattle.pages.specs.Chain.{walk, chains, times, times-in, contents, gather, holds}
 use Rattle.pages.proofs.Links.{head-once, walk-same, chains-same, chains-at, length-chains, length-walk, times-set, times-at, Once, bounded-one}
 
 pub times-append : (x : ℕ) (xs ys : List ℕ) → times x (xs ++ ys) ≡ times x xs + times x ys

@@ -1,14 +1,13 @@
 -- How links change, and which chains do not. Assumes nothing.
-use mathlib.Core.Path.{_≡_, refl, sym, ap, subst, _∙_}
-use mathlib.Core.List.{List, [], _∷_, _++_}
-use mathlib.Core.Bool.{Bool, true, false, cond}
+use mathlib.Core.Path.{_≡_, refl, sym, ap, _∙_}
+use mathlib.Core.List.{List, [], _∷_}
+use mathlib.Core.Bool.{cond}
 use mathlib.Core.Logic.{⊎-elim}
-use Prim.Native.Nat.{ℕ, zero, suc, _+_, _-_, _*_, _/_, _≤_, _<_}
+use Prim.Native.Nat.{ℕ, zero, suc, _+_, _-_, _≤_, _<_}
 use native.Mathlib.Omega.{arith}
-use lib.ListN.{length, getD, set, take, drop}
-use lib.Dec.{eqb, ltb}
-use Rattle.std.proofs.shelf.Lists.{getD-set-same, getD-set-other, length-set}
-use Rattle.std.proofs.shelf.Tests.{eq-eqb, ne-eqb, cases-lt, lt-ltb, le-ltb}
+use lib.ListN.{length, getD, set}
+use Rattle.std.proofs.shelf.Lists.{getD-set-same, getD-set-other}
+use Rattle.std.proofs.shelf.Tests.{eq-eqb, cases-lt, lt-ltb, le-ltb}
 use Rattle.regions.specs.Rules.{pages-of, pages-total}
 use Rattle.pages.specs.Chain.{walk, chains, times, times-in, at-most}
 
@@ -144,7 +143,7 @@ module _ (next ts ls : List ℕ) (i f n m : ℕ) (once : Once (chains next ts ls
       let c = getD (chains next ts ls) i [] in
       let t = times-set x (chains next ts ls) i (f ∷ c) (omega (arith, length-chains next ts ls same)) in
       let w : times x (walk (set next f (getD ts i 0)) (getD next f 0) (n - 1)) ≡ times x (walk next (getD next f 0) (n - 1)) =
-        ap (times x) (walk-same next f (getD ts i 0) (getD next f 0) (n - 1) (free-alone .1))
+      ap (times x) (walk-same next f (getD ts i 0) (getD next f 0) (n - 1) (free-alone .1))
       in
       omega (arith, once x, front x, t, w, ap (times-in x) taken)
 

@@ -1,16 +1,14 @@
 -- A new store: its pages in order, all of them free. Assumes nothing.
-use mathlib.Core.Path.{_≡_, refl, sym, ap, _∙_}
-use mathlib.Core.List.{List, [], _∷_}
+use mathlib.Core.Path.{_≡_, refl}
+use mathlib.Core.List.{List}
 use mathlib.Core.Bool.{Bool, true, false, cond}
 use mathlib.Core.Logic.{⊎-elim}
 use Prim.Native.Nat.{ℕ, zero, suc, _+_, _≤_, _<_}
 use native.Mathlib.Omega.{arith}
-use lib.ListN.{length, getD, replicate}
-use lib.Dec.{eqb, ltb}
-use Rattle.std.proofs.shelf.Tests.{eq-eqb, ne-eqb, lt-ltb, le-ltb, cases-lt}
-use Rattle.regions.specs.Rules.{pages-of, pages-total}
-use Rattle.pages.specs.Chain.{walk, chains, times, times-in, at-most}
-use Rattle.pages.proofs.Links.{Once, bounded-one, bounded-none}
+use lib.ListN.{getD, replicate}
+use lib.Dec.{eqb}
+use Rattle.std.proofs.shelf.Tests.{ne-eqb, lt-ltb, cases-lt}
+use Rattle.pages.specs.Chain.{walk, times, at-most}
 
 at-one : (b : Bool) → cond {A = ℕ} b 1 0 ≤ 1
 at-one true = omega arith
@@ -23,13 +21,14 @@ module _ (next : List ℕ) (all : (k : ℕ) → k < 256 → getD next k 0 ≡ k 
       let e = all p (omega arith) in
       let w = walk next (getD next p 0) n in
       let ih : (x < p + 1 → times x w ≡ 0) × (p + 1 + n ≤ x → times x w ≡ 0) × (times x w ≤ 1) = rw e (counted (p + 1) n (omega arith)) in
-      let off : (x ≡ p → ⊥) → _≡_ {A = ℕ} (cond (eqb x p) 1 0) 0 = λ ne. rw (ne-eqb x p ne) in
-      ((λ l. omega (arith, off (λ q. omega arith), ih .0 (omega arith))),
-       (λ g. omega (arith, off (λ q. omega arith), ih .1 (omega arith))),
-       ⊎-elim
-       (λ (l : x < p + 1). omega (arith, ih .0 l, at-one (eqb x p)))
-       (λ (g : p + 1 ≤ x). omega (arith, off (λ q. omega arith), ih .2))
-       (cases-lt x (p + 1)))
+      let off : (x ≡ p → ⊥) → _≡_ {A = ℕ} (cond (eqb x p) 1 0) 0 = λ ne. rw (ne-eqb x p ne) in (
+        (λ l. omega (arith, off (λ q. omega arith), ih .0 (omega arith))),
+        (λ g. omega (arith, off (λ q. omega arith), ih .1 (omega arith))),
+        ⊎-elim
+            (λ (l : x < p + 1). omega (arith, ih .0 l, at-one (eqb x p)))
+            (λ (g : p + 1 ≤ x). omega (arith, off (λ q. omega arith), ih .2))
+            (cases-lt x (p + 1)),
+      )
 
   pub free-once : (n : ℕ) → n ≤ 256 → times x (walk next 0 n) ≤ at-most x
   free-once n h =

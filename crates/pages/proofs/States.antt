@@ -1,19 +1,19 @@
 -- What a page store's invariant says of its regions, and what its rule then grants. Assumes nothing.
-use mathlib.Core.Path.{_≡_, refl, sym, ap, subst, _∙_}
+use mathlib.Core.Path.{_≡_, ap, _∙_}
 use mathlib.Core.List.{List, [], _∷_, _++_}
-use mathlib.Core.Bool.{Bool, true, false, _&&_}
+use mathlib.Core.Bool.{Bool}
 use Prim.Native.Nat.{ℕ, _+_, _-_, _*_, _/_, _%_, _≤_, _<_, min}
 use native.Mathlib.Omega.{arith}
-use lib.ListN.{length, getD, set, take}
+use lib.ListN.{length, getD, take}
 use lib.Dec.{leb}
 use Rattle.std.proofs.shelf.Lists.{length-push, length-set, length-take-le, getD-take}
-use Rattle.std.proofs.shelf.Tests.{le-leb, lt-leb}
+use Rattle.std.proofs.shelf.Tests.{le-leb}
 use Rattle.regions.specs.Model.{Regions, lengths, region, longer, may-open, may-put}
 use Rattle.regions.specs.Rules.{pages-of, pages-total, pages-rule}
 use Rattle.regions.proofs.Bounds.{and-true}
 use Rattle.pages.specs.Chain.{walk, chains, oldest, holds}
 use Rattle.pages.specs.declared.pages.Pages.{Pages}
-use Rattle.pages.proofs.Links.{pages-at, pages-set, chains-at, length-chains, length-walk}
+use Rattle.pages.proofs.Links.{pages-at, pages-set, chains-at, length-walk}
 use Rattle.pages.proofs.Words as words
 use Rattle.pages.proofs.Counts as counts
 
@@ -45,7 +45,7 @@ module _ (x : Pages) where
   may-open-is =
       let us = take (x .count) (x .lengths) in
       let rule : pages-rule (x .most) (us ++ 0 ∷ []) ≡ leb (length us + 1) 64 =
-        rw (length-push us 0, le-leb (pages-total (us ++ 0 ∷ [])) (min (x .most) 256) (omega (arith, counts.pages-append us (0 ∷ []), used-pages, x .few .1))) (and-true (leb (length us + 1) 64))
+      rw (length-push us 0, le-leb (pages-total (us ++ 0 ∷ [])) (min (x .most) 256) (omega (arith, counts.pages-append us (0 ∷ []), used-pages, x .few .1))) (and-true (leb (length us + 1) 64))
       in
       ap (λ xs. pages-rule (x .most) (xs ++ 0 ∷ [])) lengths-are
       ∙ rule
@@ -84,7 +84,7 @@ module _ (x : Pages) where
         let at : getD us p 0 ≡ getD (x .lengths) p 0 = getD-take (x .count) (x .lengths) p 0 here in
         let grown = pages-set us p (getD us p 0 + n) (omega (arith, used)) in
         let rule : pages-rule (x .most) (longer us p n) ≡ leb (pages-total (longer us p n)) (min (x .most) 256) =
-          rw (length-set us p (getD us p 0 + n), le-leb (length us) 64 (omega (arith, used, x .few .0)))
+        rw (length-set us p (getD us p 0 + n), le-leb (length us) 64 (omega (arith, used, x .few .0)))
         in
         ap (λ xs. pages-rule (x .most) (longer xs p n)) lengths-are
         ∙ rule

@@ -1,8 +1,7 @@
 -- The words of chains, and how one more word changes them. Assumes nothing.
 use mathlib.Core.Path.{_≡_, refl, sym, ap, subst, _∙_}
 use mathlib.Core.List.{List, [], _∷_, _++_}
-use mathlib.Core.Bool.{Bool, true, false, cond}
-use mathlib.Core.Logic.{⊎-elim, _≢_}
+use mathlib.Core.Logic.{⊎-elim}
 use Prim.Native.Nat.{ℕ, zero, suc, _+_, _-_, _*_, _/_, _%_, _≤_, _<_, min}
 use native.Mathlib.Omega.{arith}
 use lib.ListN.{length, getD, set, take, drop}
@@ -55,15 +54,15 @@ gather-at ws (p ∷ ps) k n h l =
     let g = length-gather ws ps n (inside-tail p ps h) in
     ⊎-elim
     (λ (lt : k < 16 * length ps).
-      let e : suc (length ps) - 1 - k / 16 ≡ suc (length ps - 1 - k / 16) = omega arith in
-      getD-append-left (gather ws ps) (page ws p) 0 k (omega arith) ∙ gather-at ws ps k n (inside-tail p ps h) lt ∙ rw e)
+    let e : suc (length ps) - 1 - k / 16 ≡ suc (length ps - 1 - k / 16) = omega arith in
+    getD-append-left (gather ws ps) (page ws p) 0 k (omega arith) ∙ gather-at ws ps k n (inside-tail p ps h) lt ∙ rw e)
     (λ (ge : 16 * length ps ≤ k).
-      let e : suc (length ps) - 1 - k / 16 ≡ 0 = omega arith in
-      let f : k - 16 * length ps ≡ k % 16 = omega arith in
-      getD-append-right (gather ws ps) (page ws p) (16 * length ps) k 0 g ge
-      ∙ getD-take 16 (drop (16 * p) ws) (k - 16 * length ps) 0 (omega arith)
-      ∙ getD-drop (16 * p) ws (k - 16 * length ps) 0
-      ∙ rw (e, f))
+    let e : suc (length ps) - 1 - k / 16 ≡ 0 = omega arith in
+    let f : k - 16 * length ps ≡ k % 16 = omega arith in
+    getD-append-right (gather ws ps) (page ws p) (16 * length ps) k 0 g ge
+    ∙ getD-take 16 (drop (16 * p) ws) (k - 16 * length ps) 0 (omega arith)
+    ∙ getD-drop (16 * p) ws (k - 16 * length ps) 0
+    ∙ rw (e, f))
     (cases-lt k (16 * length ps))
 
 -- a word written into page p
@@ -71,17 +70,17 @@ module _ (ws : List ℕ) (p o w : ℕ) (low : o < 16) where
   pub page-same : (q : ℕ) → (p ≡ q → ⊥) → page (set ws (16 * p + o) w) q ≡ page ws q
   page-same q d =
       let n : length (page (set ws (16 * p + o) w) q) ≡ length (page ws q) =
-        length-take 16 (drop (16 * q) (set ws (16 * p + o) w))
-        ∙ ap (min 16) (length-drop (16 * q) (set ws (16 * p + o) w) ∙ ap (λ m. m - 16 * q) (length-set ws (16 * p + o) w) ∙ sym (length-drop (16 * q) ws))
-        ∙ sym (length-take 16 (drop (16 * q) ws))
+      length-take 16 (drop (16 * q) (set ws (16 * p + o) w))
+      ∙ ap (min 16) (length-drop (16 * q) (set ws (16 * p + o) w) ∙ ap (λ m. m - 16 * q) (length-set ws (16 * p + o) w) ∙ sym (length-drop (16 * q) ws))
+      ∙ sym (length-take 16 (drop (16 * q) ws))
       in
       ext-getD 0 _ _ n
       (λ j h.
-        let s : j < 16 = omega (arith, length-take 16 (drop (16 * q) (set ws (16 * p + o) w))) in
-        let ne : (16 * q + j ≡ 16 * p + o) → ⊥ = λ e. d (omega arith) in
-        getD-take 16 (drop (16 * q) (set ws (16 * p + o) w)) j 0 s ∙ getD-drop (16 * q) (set ws (16 * p + o) w) j 0
-        ∙ getD-set-other ws (16 * p + o) (16 * q + j) w 0 ne
-        ∙ sym (getD-drop (16 * q) ws j 0) ∙ sym (getD-take 16 (drop (16 * q) ws) j 0 s))
+      let s : j < 16 = omega (arith, length-take 16 (drop (16 * q) (set ws (16 * p + o) w))) in
+      let ne : (16 * q + j ≡ 16 * p + o) → ⊥ = λ e. d (omega arith) in
+      getD-take 16 (drop (16 * q) (set ws (16 * p + o) w)) j 0 s ∙ getD-drop (16 * q) (set ws (16 * p + o) w) j 0
+      ∙ getD-set-other ws (16 * p + o) (16 * q + j) w 0 ne
+      ∙ sym (getD-drop (16 * q) ws j 0) ∙ sym (getD-take 16 (drop (16 * q) ws) j 0 s))
 
   pub gather-same : (ps : List ℕ) → times p ps ≡ 0 → gather (set ws (16 * p + o) w) ps ≡ gather ws ps
   gather-same [] h = refl
@@ -109,9 +108,9 @@ module _ (ws : List ℕ) (p o w : ℕ) (low : o < 16) where
       let new : page (set ws (16 * p + o) w) p ≡ set (page ws p) o w = ap (take 16) (drop-set-add (16 * p) ws o w) ∙ take-set-in 16 (drop (16 * p) ws) o w in
       let o-is : l - 16 * length qs ≡ o = omega arith in
       let all : gather (set ws (16 * p + o) w) (p ∷ qs) ≡ set (gather ws (p ∷ qs)) l w =
-        ap (λ xs. xs ++ page (set ws (16 * p + o) w) p) (gather-same qs none)
-        ∙ ap (λ xs. gather ws qs ++ xs) new
-        ∙ sym (set-append-right (gather ws qs) (page ws p) (16 * length qs) l w g (omega arith) ∙ ap (λ k. gather ws qs ++ set (page ws p) k w) o-is)
+      ap (λ xs. xs ++ page (set ws (16 * p + o) w) p) (gather-same qs none)
+      ∙ ap (λ xs. gather ws qs ++ xs) new
+      ∙ sym (set-append-right (gather ws qs) (page ws p) (16 * length qs) l w g (omega arith) ∙ ap (λ k. gather ws qs ++ set (page ws p) k w) o-is)
       in
       ap (take (l + 1)) all ∙ take-more-set (gather ws (p ∷ qs)) l w (omega (arith, length-append (gather ws qs) (page ws p)))
 
@@ -187,7 +186,7 @@ module _ (ws next ts ls : List ℕ) (f n : ℕ) (wide : length ws ≡ 4096) (lin
       let P : List ℕ → Type 0 = λ c. Inside c in
       ap (λ cs. contents (set ws (16 * t + l % 16) w) cs (set ls p (l + 1))) stay
       ∙ contents-push ws t (l % 16) w (omega arith) (chains next ts ls) ls qs p wide (omega (arith, many)) (many ∙ sym slots′) (omega (arith, once t, bounded-one t)) (subst P is (inside-chain (chains next ts ls) (walk next f n) p once)) is
-        (omega (arith, length-walk next (getD next t 0) (pages-of l - 1)))
+      (omega (arith, length-walk next (getD next t 0) (pages-of l - 1)))
 
   -- one more word in a page from the free list
   pub push-new : (w : ℕ) → getD ls p 0 % 16 ≡ 0 → 0 < n → holds (set ws (16 * f + getD ls p 0 % 16) w) (set next f (getD ts p 0)) (set ts p f) (set ls p (getD ls p 0 + 1)) ≡ set (holds ws next ts ls) p (getD (holds ws next ts ls) p [] ++ w ∷ [])

@@ -19,6 +19,7 @@ const PAGES: usize = 256;
 
 // How many words a page has, and all pages together.
 const PAGE: usize = 16;
+
 const WORDS: usize = 4096;
 
 // The chains are linked from the newest page to the oldest, and so is the list of the pages that are free.

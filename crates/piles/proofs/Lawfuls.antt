@@ -1,5 +1,4 @@
 -- A store of either kind, and one under quotas, has a lawful rule. Assumes nothing.
-use lib.ListN.{length}
 use Rattle.regions.specs.Laws.{Lawful}
 use Rattle.regions.specs.Rules.{quota-rule}
 use Rattle.regions.proofs.Lawfuls.{arena-lawful, pages-lawful, quota-lawful}

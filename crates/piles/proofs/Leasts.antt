@@ -2,12 +2,10 @@
 use mathlib.Core.Path.{_≡_, refl, sym, ap, _∙_}
 use mathlib.Core.List.{List, [], _∷_}
 use mathlib.Core.Bool.{Bool, true, false, _&&_}
-use mathlib.Core.Logic.{⊎-elim}
-use Prim.Native.Nat.{ℕ, zero, suc, _+_, _≤_, _<_, min}
+use Prim.Native.Nat.{ℕ, _<_, min}
 use native.Mathlib.Omega.{arith}
-use lib.ListN.{length, getD, take, drop}
+use lib.ListN.{length, getD, drop}
 use lib.Dec.{leb}
-use Rattle.std.proofs.shelf.Tests.{le-leb, lt-leb, cases-lt}
 use Rattle.std.proofs.shelf.Ways.{tells}
 use Rattle.std.proofs.shelf.Lists.{drop-more, drop-all}
 use Rattle.regions.specs.Model.{Rule, within}
@@ -31,9 +29,9 @@ within-min a b (l ∷ ls) = rw (leb-min l a b, within-min a b ls) (and-swap (leb
 quota-quota : (a b : ℕ) (g : Rule) (ls : List ℕ) → quota-rule b (quota-rule a g) ls ≡ quota-rule (min a b) g ls
 quota-quota a b g ls = rw (within-min a b ls) (sym (and-assoc (within b ls) (within a ls) (g ls)))
   where
-  and-assoc : (x y z : Bool) → ((x && y) && z) ≡ (x && (y && z))
-  and-assoc true y z = refl
-  and-assoc false y z = refl
+    and-assoc : (x y z : Bool) → ((x && y) && z) ≡ (x && (y && z))
+    and-assoc true y z = refl
+    and-assoc false y z = refl
 
 -- rules that grant the same lists do so under the same quotas
 piled-same : (g h : Rule) (qs : List ℕ) → ((ls : List ℕ) → g ls ≡ h ls) → (ls : List ℕ) → piled g qs ls ≡ piled h qs ls

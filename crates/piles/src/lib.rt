@@ -1,3 +1,3 @@
+pub mod build;
 pub mod ground;
 pub mod pile;
-pub mod build;

@@ -1,14 +1,14 @@
 -- The rules of the three stores are lawful. Assumes nothing.
 use mathlib.Core.Path.{_≡_, refl}
 use mathlib.Core.List.{List, [], _∷_}
-use mathlib.Core.Bool.{Bool, true, _&&_}
-use Prim.Native.Nat.{ℕ, _+_, _≤_, min}
+use mathlib.Core.Bool.{true}
+use Prim.Native.Nat.{ℕ, _≤_, min}
 use native.Mathlib.Omega.{arith}
 use lib.ListN.{length}
 use lib.Dec.{leb}
 use Rattle.std.proofs.shelf.Tests.{and-parts, and-from, le-leb, leb-true}
-use Rattle.regions.specs.Model.{Rule, within}
-use Rattle.regions.specs.Rules.{total, capacity, pages-of, pages-total, Arena-lawful, Pages-lawful, Quota-lawful}
+use Rattle.regions.specs.Model.{within}
+use Rattle.regions.specs.Rules.{total, capacity, pages-total, Arena-lawful, Pages-lawful, Quota-lawful}
 
 total-short : (n : ℕ) (ls : List ℕ) → total ls ≤ n → within n ls ≡ true
 total-short n [] h = refl

@@ -1,3 +1,4 @@
 pub mod Model
 pub mod Laws
 pub mod Rules
+pub mod Worked

@@ -44,6 +44,7 @@ region rs p = getD rs p []
 abbrev pub may-open : Rule → Regions → Bool
 may-open g rs = g (lengths rs ++ 0 ∷ [])
 
+-- where it does not, open is refused
 abbrev pub open-answer : Rule → Regions → Result (Unit {0}) Refusal
 open-answer g rs = cond (may-open g rs) (Ok tt) (Err Denied)
 

@@ -45,9 +45,11 @@ quota-rule q g ls = within q ls && g ls
 abbrev pub quota-room : ℕ → Regions → ℕ → ℕ → Result Bool Refusal
 quota-room q rs p n = cond (ltb p (length rs)) (Ok (within q (lengths rs) && leb (length (region rs p) + n) q)) (Err NoRegion)
 
+-- the arena's rule is lawful, whatever the memory
 abbrev pub Arena-lawful : Type 0
 Arena-lawful = (words : ℕ) → Lawful (arena-rule words)
 
+-- and so is the page store's, whatever the number of pages
 abbrev pub Pages-lawful : Type 0
 Pages-lawful = (pages : ℕ) → Lawful (pages-rule pages)
 

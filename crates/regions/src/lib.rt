@@ -1,5 +1,5 @@
-pub mod refusal;
-pub mod store;
 pub mod lengths;
 pub mod quota;
+pub mod refusal;
 pub mod rules;
+pub mod store;

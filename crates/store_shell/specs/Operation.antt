@@ -14,6 +14,7 @@ abbrev pub told : {A : Type 0} → (A → Answer) → Result A Refusal → Resul
 told f (Ok a) = Ok (f a)
 told f (Err e) = Err e
 
+-- the answer of each operation
 abbrev pub answered : Rule → Regions → Operation → Result Answer Refusal
 answered g rs Open = told (λ _. Done) (open-answer g rs)
 answered g rs (Put p a b) = told Length (put-answer g rs p (a ∷ b ∷ []))
@@ -21,6 +22,7 @@ answered g rs (Get p i) = told Word (get-answer rs p i)
 answered g rs Close = told (λ _. Done) (close-answer rs)
 answered g rs Clear = Ok Done
 
+-- what the store holds after each
 abbrev pub afterwards : Rule → Regions → Operation → Regions
 afterwards g rs Open = open-after g rs
 afterwards g rs (Put p a b) = put-after g rs p (a ∷ b ∷ [])

@@ -60,8 +60,18 @@ fn operation(words: &[&str]) -> Result<Operation, Fault> {
         Some(&"open") => (Operation::Open, 1),
         Some(&"close") => (Operation::Close, 1),
         Some(&"clear") => (Operation::Clear, 1),
-        Some(&"put") => (Operation::Put(number(words.get(1))?, word(words.get(2))?, word(words.get(3))?), 4),
-        Some(&"get") => (Operation::Get(number(words.get(1))?, number(words.get(2))?), 3),
+        Some(&"put") => (
+            Operation::Put(
+                number(words.get(1))?,
+                word(words.get(2))?,
+                word(words.get(3))?,
+            ),
+            4,
+        ),
+        Some(&"get") => (
+            Operation::Get(number(words.get(1))?, number(words.get(2))?),
+            3,
+        ),
         _ => return Err(Fault::NoCommand),
     };
     if words.len() > takes {

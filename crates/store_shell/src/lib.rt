@@ -1,3 +1,3 @@
-pub mod operation;
 mod command;
+pub mod operation;
 pub mod shell;

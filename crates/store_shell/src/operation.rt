@@ -2,11 +2,11 @@
 ghost use mathlib.Core.Path.{_≡_};
 ghost use Rattle.piles.specs.Pile.{pile-regions, pile-rule};
 ghost use Rattle.store_shell.specs.Operation.{answered, afterwards};
+use arena::arena::ArenaRegionStore;
+use pages::pages::PagesRegionStore;
 use piles::ground::Ground;
 use piles::ground::GroundRegionStore;
 use piles::pile::Pile;
-use arena::arena::ArenaRegionStore;
-use pages::pages::PagesRegionStore;
 use regions::quota::QuotaRegionStore;
 use regions::refusal::Refusal;
 use regions::store::RegionStore;

@@ -9,8 +9,8 @@ use piles::build::build;
 use piles::pile::Pile;
 use regions::refusal::Refusal;
 use std::io;
-use std::io::BufReader;
 use std::io::BufRead;
+use std::io::BufReader;
 
 // The name of an operation, as it stands in a line.
 fn name(operation: Operation) -> &'static str {
@@ -35,7 +35,12 @@ fn tell(rt: &LibcRuntime, operation: Operation, answer: Result<Answer, Refusal>)
 }
 
 // Answers one line, and gives back the store that is there then.
-fn answer(rt: &LibcRuntime, store: Option<Pile>, line: u64, text: &str) -> io::Result<Option<Pile>> {
+fn answer(
+    rt: &LibcRuntime,
+    store: Option<Pile>,
+    line: u64,
+    text: &str,
+) -> io::Result<Option<Pile>> {
     match parse(rt.alloc(), text) {
         Ok(Command::Make(kind, size, quotas)) => match build(rt.alloc(), kind, size, &quotas) {
             Ok(pile) => {

@@ -1,6 +1,5 @@
 use mathlib.Core.Path.{_≡_}
-use Prim.Native.Nat.{_≤_}
-use lib.ListN.{length, take}
+use lib.ListN.{take}
 use Rattle.regions.specs.Rules.{total}
 use Rattle.arena.proofs.arena.sum.Given as given
 

@@ -1,6 +1,6 @@
-use mathlib.Core.Path.{_≡_, sym, ap, _∙_}
-use lib.ListN.{getD, drop}
-use Prim.Native.Nat.{_+_, min}
+use mathlib.Core.Path.{sym, ap, _∙_}
+use lib.ListN.{drop}
+use Prim.Native.Nat.{_+_}
 use Rattle.std.proofs.shelf.Lists.{drop-more, drop-all}
 use Rattle.piles.specs.Build.{least}
 use Rattle.piles.proofs.build.smallest.Needs as need

@@ -1,9 +1,9 @@
-use mathlib.Core.Path.{_≡_, refl, sym, ap, subst, _∙_}
+use mathlib.Core.Path.{_≡_, refl, ap, subst, _∙_}
 use mathlib.Core.List.{List, _++_}
 use Prim.Native.Nat.{ℕ, _+_, _≤_, _<_}
 use native.Mathlib.Omega.{arith}
 use lib.ListN.{length, take, getD, set}
-use Rattle.regions.specs.Rules.{capacity, total}
+use Rattle.regions.specs.Rules.{total}
 use Rattle.arena.specs.Layout.{split}
 use Rattle.regions.specs.Model.{region}
 use Rattle.std.proofs.shelf.Lists.{length-set, refilled-is}
@@ -46,7 +46,7 @@ returns c =
     let l : length vs ≡ x .memory .len = c .write .ensures .len ∙ c .shift .ensures .len ∙ c .as-mut-slice-words .ensures .len in
     let room : total (take (x .count) (x .lens)) + n ≤ length us = omega (arith, c .pre .room, c .as-mut-slice-words .ensures .len, x .memory .ok .0) in
     let moved : (k : ℕ) → e ≤ k → k < total (take (x .count) (x .lens)) → getD ss (k + n) 0 ≡ getD us k 0 =
-      λ k g h. c .shift .ensures .moved k g (omega (arith, c .begin-used .ensures .is))
+    λ k g h. c .shift .ensures .moved k g (omega (arith, c .begin-used .ensures .is))
     in
     let P : List ℕ → Type 0 = λ ws. split (take (x .count) (set (x .lens) p (getD (x .lens) p 0 + n))) vs ≡ set (split (take (x .count) (x .lens)) ws) p (region (split (take (x .count) (x .lens)) ws) p ++ new) in
     let made : P us = words-made (x .lens) us ss vs new (x .count) p e few (c .pre .here) room end (c .shift .ensures .len) (c .shift .ensures .below) moved (c .write .ensures .len) (c .write .ensures .below) (c .write .ensures .copied) (c .write .ensures .above) in

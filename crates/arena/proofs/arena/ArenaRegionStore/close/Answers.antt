@@ -1,8 +1,7 @@
-use mathlib.Core.Path.{_≡_, refl, sym, ap, _∙_}
-use Prim.Native.Nat.{_-_, _≤_, _<_}
+use mathlib.Core.Path.{refl, sym, ap, _∙_}
+use Prim.Native.Nat.{_-_, _≤_}
 use native.Mathlib.Omega.{arith}
 use lib.ListN.{length, take}
-use Rattle.regions.specs.Rules.{capacity, total}
 use Rattle.arena.specs.Layout.{split}
 use Rattle.arena.proofs.Splits.{total-below}
 use Rattle.arena.proofs.Stretches.{close-some, used-length, used-below}
@@ -17,7 +16,6 @@ returns c =
     record {
       answer = sym (t .0);
       after = sym (t .1 ∙ ap (λ m. split (take (m - 1) (take (x .count) (x .lens))) (x .memory .items)) n ∙ ap (λ ls. split ls (x .memory .items)) (used-below (x .lens) (x .count) few (x .count - 1) (omega arith)));
-     
       rule = refl;
     }
 

@@ -1,10 +1,10 @@
-use mathlib.Core.Path.{_≡_, refl, sym, ap, _∙_}
+use mathlib.Core.Path.{sym, ap, _∙_}
 use Prim.Native.Nat.{_+_, _≤_, _<_}
 use native.Mathlib.Omega.{arith}
 use lib.ListN.{length, take, getD}
 use Rattle.std.specs.declared.result.Result.the-variants.{Ok}
 use Rattle.std.proofs.shelf.Lists.{getD-read}
-use Rattle.regions.specs.Rules.{capacity, total}
+use Rattle.regions.specs.Rules.{total}
 use Rattle.arena.proofs.Splits.{region-end}
 use Rattle.arena.proofs.Stretches.{get-none, get-past, get-word, used-length, used-at, used-below}
 use Rattle.arena.proofs.arena.ArenaRegionStore.get.Needs as need

@@ -1,10 +1,9 @@
-use mathlib.Core.Path.{_≡_, refl, sym, ap, _∙_}
-use mathlib.Core.List.{[], _∷_, _++_}
-use Prim.Native.Nat.{_+_, _≤_, _<_}
+use mathlib.Core.Path.{refl, sym, ap, _∙_}
+use Prim.Native.Nat.{_≤_, _<_}
 use native.Mathlib.Omega.{arith}
-use lib.ListN.{length, take, set}
+use lib.ListN.{length, take}
 use Rattle.std.proofs.shelf.Lists.{length-set, take-more-set}
-use Rattle.regions.specs.Rules.{capacity, total}
+use Rattle.regions.specs.Rules.{total}
 use Rattle.arena.specs.Layout.{split}
 use Rattle.arena.proofs.Splits.{total-push}
 use Rattle.arena.proofs.Stretches.{open-full, open-room, used-length}
@@ -28,7 +27,6 @@ returns c =
     record {
       answer = sym (t .0);
       after = ap (λ ls. split ls (x .memory .items)) (take-more-set (x .lens) (x .count) 0 l) ∙ sym (t .1);
-     
       rule = refl;
     }
 

@@ -1,10 +1,10 @@
-use mathlib.Core.Path.{_≡_, refl, sym, ap, _∙_}
+use mathlib.Core.Path.{refl, sym, ap, _∙_}
 use mathlib.Core.List.{[], _∷_}
-use Prim.Native.Nat.{_+_, _≤_, _<_}
+use Prim.Native.Nat.{_≤_}
 use native.Mathlib.Omega.{arith}
-use lib.ListN.{length, take, getD}
+use lib.ListN.{length, take}
 use Rattle.std.specs.declared.result.Result.the-variants.{Ok}
-use Rattle.regions.specs.Rules.{capacity, total, arena-rule}
+use Rattle.regions.specs.Rules.{capacity, arena-rule}
 use Rattle.arena.proofs.Stretches.{put-none, put-full, put-room, used-length, used-at}
 use Rattle.arena.proofs.arena.ArenaRegionStore.put.Needs as need
 

@@ -1,11 +1,10 @@
-use mathlib.Core.Path.{_≡_, refl, sym, ap, _∙_}
-use mathlib.Core.List.{List, [], _∷_, _++_}
-use Prim.Native.Nat.{ℕ, _+_, _-_, _≤_, _<_}
+use mathlib.Core.Path.{_≡_, refl, ap, _∙_}
+use mathlib.Core.List.{[], _++_}
+use Prim.Native.Nat.{_+_, _<_}
 use native.Mathlib.Omega.{arith}
-use lib.ListN.{length, getD, set, take}
+use lib.ListN.{length, getD, set}
 use Rattle.std.proofs.shelf.Lists.{getD-set-same, take-all}
-use Rattle.regions.specs.Rules.{pages-of, pages-total}
-use Rattle.pages.specs.Chain.{holds}
+use Rattle.regions.specs.Rules.{pages-total}
 use Rattle.pages.proofs.Links.{pages-set}
 use Rattle.pages.proofs.States.{all-of, all-length}
 use Rattle.pages.proofs.Appends.{held-start, held-step, lens-start, lens-step}
@@ -39,11 +38,12 @@ loop-word-again c =
     let z = c .push .last .self in
     let p = c .args .position in
     let i = c .loop-word .word-index in
-    let n = all-length x in
-    (held-step (all-of x) (all-of y) (all-of z) (c .args .new .now) p i (omega (arith, n, c .pre .here, x .few .0)) (c .loop-word-test .taken) (c .loop-word .inv .0) (c .push .ensures .held),
-     lens-step (x .lengths) (y .lengths) (z .lengths) p i (omega (arith, c .pre .here, x .few .0, x .sized .3)) (c .loop-word .inv .1) (c .push .ensures .lengths),
-     c .push .ensures .count ∙ c .loop-word .inv .2,
-     c .push .ensures .most ∙ c .loop-word .inv .3)
+    let n = all-length x in (
+      held-step (all-of x) (all-of y) (all-of z) (c .args .new .now) p i (omega (arith, n, c .pre .here, x .few .0)) (c .loop-word-test .taken) (c .loop-word .inv .0) (c .push .ensures .held),
+      lens-step (x .lengths) (y .lengths) (z .lengths) p i (omega (arith, c .pre .here, x .few .0, x .sized .3)) (c .loop-word .inv .1) (c .push .ensures .lengths),
+      c .push .ensures .count ∙ c .loop-word .inv .2,
+      c .push .ensures .most ∙ c .loop-word .inv .3,
+    )
 
 pub returns : need.returns
 returns c =

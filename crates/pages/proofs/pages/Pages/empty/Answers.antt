@@ -1,6 +1,6 @@
-use mathlib.Core.Path.{_≡_, refl, sym, ap, subst, _∙_}
+use mathlib.Core.Path.{refl, sym, subst, _∙_}
 use mathlib.Core.List.{List}
-use Prim.Native.Nat.{ℕ, _+_, _-_, _≤_, _<_}
+use Prim.Native.Nat.{ℕ, _+_, _<_}
 use native.Mathlib.Omega.{arith}
 use lib.ListN.{length, getD, set}
 use Rattle.std.proofs.shelf.Lists.{length-set, getD-set-same}
@@ -32,13 +32,22 @@ ghost-self c =
     let next = set (x .next) b (x .free) in
     let O : ℕ → Type 0 = λ n. Once (chains next (x .tops) (set (x .lengths) p 0)) (walk next (getD (x .tops) p 0) (n + x .left)) in
     let E : List (List ℕ) → Type 0 = λ ds. Ends ds (x .bottoms) in
-    let f = freed (x .words) (x .next) (x .tops) (x .lengths) (x .free) (x .left) p b (x .sized .1) (x .sized .2) (x .sized .3) (x .once) (c .pre .here) some (bottom-is x p (c .pre .here) some) (bottom-below x p (c .pre .here) some) in
-    ((x .sized .0, length-set (x .next) _ _ ∙ x .sized .1, x .sized .2, length-set (x .lengths) p 0 ∙ x .sized .3),
-     (x .few,
-      ((λ i g. zeroed (x .lengths) p i here (x .rest i g)),
-       (omega (arith, x .sum, pages-set (x .lengths) p 0 here, c .pages-for .ensures),
-        (subst O (sym (c .pages-for .ensures)) (freed-once (x .words) (x .next) (x .tops) (x .lengths) (x .free) (x .left) p b (x .sized .1) (x .sized .2) (x .sized .3) (x .once) (c .pre .here) some (bottom-is x p (c .pre .here) some) (bottom-below x p (c .pre .here) some)),
-         ((x .ends .0, subst E (sym f) (freed-ends cs (x .bottoms) p inside (x .ends .1))), tt))))))
+    let f = freed (x .words) (x .next) (x .tops) (x .lengths) (x .free) (x .left) p b (x .sized .1) (x .sized .2) (x .sized .3) (x .once) (c .pre .here) some (bottom-is x p (c .pre .here) some) (bottom-below x p (c .pre .here) some) in (
+      (x .sized .0, length-set (x .next) _ _ ∙ x .sized .1, x .sized .2, length-set (x .lengths) p 0 ∙ x .sized .3),
+      (
+        x .few,
+        (
+          (λ i g. zeroed (x .lengths) p i here (x .rest i g)),
+          (
+            omega (arith, x .sum, pages-set (x .lengths) p 0 here, c .pages-for .ensures),
+            (
+              subst O (sym (c .pages-for .ensures)) (freed-once (x .words) (x .next) (x .tops) (x .lengths) (x .free) (x .left) p b (x .sized .1) (x .sized .2) (x .sized .3) (x .once) (c .pre .here) some (bottom-is x p (c .pre .here) some) (bottom-below x p (c .pre .here) some)),
+              ((x .ends .0, subst E (sym f) (freed-ends cs (x .bottoms) p inside (x .ends .1))), tt),
+            ),
+          ),
+        ),
+      ),
+    )
 
 pub returns-then-length-gt0 : need.returns-then-length-gt0
 returns-then-length-gt0 c =

@@ -1,9 +1,8 @@
-use mathlib.Core.Path.{_≡_, refl, sym, ap, _∙_}
-use Prim.Native.Nat.{ℕ, _+_, _≤_, _<_}
+use mathlib.Core.Path.{_≡_, sym, ap, _∙_}
 use native.Mathlib.Omega.{arith}
-use lib.ListN.{length, getD}
+use lib.ListN.{getD}
 use Rattle.regions.specs.Rules.{pages-of}
-use Rattle.pages.specs.Chain.{walk, chains}
+use Rattle.pages.specs.Chain.{walk}
 use Rattle.pages.proofs.Links.{walk-step, walk-first}
 use Rattle.pages.proofs.Words.{page-below}
 use Rattle.pages.proofs.pages.Pages.page_at.Needs as need

@@ -1,13 +1,13 @@
 use mathlib.Core.Path.{_≡_, refl, sym, ap, subst, _∙_}
 use mathlib.Core.List.{List, []}
 use mathlib.Core.Bool.{cond}
-use Prim.Native.Nat.{ℕ, _+_, _*_, _%_, _≤_, _<_, suc}
+use Prim.Native.Nat.{ℕ, _+_, _<_, suc}
 use native.Mathlib.Omega.{arith}
 use lib.ListN.{length, getD, set}
 use lib.Dec.{eqb}
 use Rattle.std.proofs.shelf.Lists.{length-set, getD-set-other}
 use Rattle.regions.specs.Rules.{pages-of}
-use Rattle.pages.specs.Chain.{walk, chains, times, times-in, at-most}
+use Rattle.pages.specs.Chain.{chains}
 use Rattle.pages.proofs.Links.{pages-set, chains-at, length-chains, length-walk, taken, taken-once, free-below}
 use Rattle.pages.proofs.Words.{push-new}
 use Rattle.pages.proofs.Ends.{Ends, taken-ends}
@@ -27,12 +27,19 @@ ghost-self c =
     let tk = taken (x .next) (x .tops) (x .lengths) p (x .free) (x .left) (l + 1) (x .once) there here (x .sized .2 ∙ sym (x .sized .3)) (c .pre .some) (x .sized .1) more in
     let E : List (List ℕ) → Type 0 = λ ds. Ends ds (set (x .bottoms) p (cond (eqb l 0) (x .free) (getD (x .bottoms) p 0))) in
     let F : ℕ → Type 0 = λ v. Ends (chains (set (x .next) (x .free) (getD (x .tops) p 0)) (set (x .tops) p (x .free)) (set (x .lengths) p (l + 1))) (set (x .bottoms) p v) in
-    let ends : F (c .bottom-after .result) = subst F (sym (c .bottom-after .ensures)) (subst E (sym tk) (taken-ends cs (x .bottoms) p (omega (arith, many, here)) (x .ends .1) (x .free) l (omega (arith, x .ends .0, x .few .0, c .pre .here)) len)) in
-    ((length-set (x .words) _ _ ∙ x .sized .0, length-set (x .next) _ _ ∙ x .sized .1, length-set (x .tops) _ _ ∙ x .sized .2, length-set (x .lengths) p (l + 1) ∙ x .sized .3),
-     (x .few,
-      ((λ i g. getD-set-other (x .lengths) p i (l + 1) 0 (λ e. omega (arith, c .pre .here)) ∙ x .rest i g),
-       (omega (arith, x .sum, pages-set (x .lengths) p (l + 1) here, c .pre .full, c .pre .some),
-        (taken-once (x .next) (x .tops) (x .lengths) p (x .free) (x .left) (l + 1) (x .once) there here (x .sized .2 ∙ sym (x .sized .3)) (c .pre .some) (x .sized .1) more, ((length-set (x .bottoms) p _ ∙ x .ends .0, ends), tt))))))
+    let ends : F (c .bottom-after .result) = subst F (sym (c .bottom-after .ensures)) (subst E (sym tk) (taken-ends cs (x .bottoms) p (omega (arith, many, here)) (x .ends .1) (x .free) l (omega (arith, x .ends .0, x .few .0, c .pre .here)) len)) in (
+      (length-set (x .words) _ _ ∙ x .sized .0, length-set (x .next) _ _ ∙ x .sized .1, length-set (x .tops) _ _ ∙ x .sized .2, length-set (x .lengths) p (l + 1) ∙ x .sized .3),
+      (
+        x .few,
+        (
+          (λ i g. getD-set-other (x .lengths) p i (l + 1) 0 (λ e. omega (arith, c .pre .here)) ∙ x .rest i g),
+          (
+            omega (arith, x .sum, pages-set (x .lengths) p (l + 1) here, c .pre .full, c .pre .some),
+            (taken-once (x .next) (x .tops) (x .lengths) p (x .free) (x .left) (l + 1) (x .once) there here (x .sized .2 ∙ sym (x .sized .3)) (c .pre .some) (x .sized .1) more, ((length-set (x .bottoms) p _ ∙ x .ends .0, ends), tt)),
+          ),
+        ),
+      ),
+    )
 
 pub returns : need.returns
 returns c =

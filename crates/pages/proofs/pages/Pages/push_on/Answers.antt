@@ -1,12 +1,11 @@
-use mathlib.Core.Path.{_≡_, refl, sym, ap, subst, _∙_}
+use mathlib.Core.Path.{refl, sym, ap, subst, _∙_}
 use mathlib.Core.List.{List}
-use Prim.Native.Nat.{ℕ, _+_, _*_, _%_, _≤_, _<_}
+use Prim.Native.Nat.{ℕ, _+_, _<_}
 use native.Mathlib.Omega.{arith}
-use lib.ListN.{length, getD, set}
+use lib.ListN.{length, getD}
 use Rattle.std.proofs.shelf.Lists.{length-set, getD-set-other}
-use Rattle.regions.specs.Rules.{pages-of}
-use Rattle.pages.specs.Chain.{walk, chains, times, times-in, at-most}
-use Rattle.pages.proofs.Links.{pages-at, pages-set, chains-stay, walk-first, Once}
+use Rattle.pages.specs.Chain.{times-in}
+use Rattle.pages.proofs.Links.{pages-at, pages-set, chains-stay}
 use Rattle.pages.proofs.Words.{top-below, push-on}
 use Rattle.pages.proofs.Ends.{Ends}
 use Rattle.pages.proofs.pages.Pages.push_on.Needs as need
@@ -18,12 +17,19 @@ ghost-self c =
     let l = getD (x .lengths) p 0 in
     let here : p < length (x .lengths) = omega (arith, x .sized .3, x .few .0, c .pre .here) in
     let stay = chains-stay (x .next) (x .tops) (x .lengths) p (l + 1) (omega (arith, c .pre .part)) in
-    let E : List (List ℕ) → Type 0 = λ ds. Ends ds (x .bottoms) in
-    ((length-set (x .words) _ _ ∙ x .sized .0, x .sized .1, x .sized .2, length-set (x .lengths) p (l + 1) ∙ x .sized .3),
-     (x .few,
-      ((λ i g. getD-set-other (x .lengths) p i (l + 1) 0 (λ e. omega (arith, c .pre .here)) ∙ x .rest i g),
-       (omega (arith, x .sum, pages-set (x .lengths) p (l + 1) here, c .pre .part),
-        ((λ z. omega (arith, x .once z, ap (times-in z) stay)), ((x .ends .0, subst E (sym stay) (x .ends .1)), tt))))))
+    let E : List (List ℕ) → Type 0 = λ ds. Ends ds (x .bottoms) in (
+      (length-set (x .words) _ _ ∙ x .sized .0, x .sized .1, x .sized .2, length-set (x .lengths) p (l + 1) ∙ x .sized .3),
+      (
+        x .few,
+        (
+          (λ i g. getD-set-other (x .lengths) p i (l + 1) 0 (λ e. omega (arith, c .pre .here)) ∙ x .rest i g),
+          (
+            omega (arith, x .sum, pages-set (x .lengths) p (l + 1) here, c .pre .part),
+            ((λ z. omega (arith, x .once z, ap (times-in z) stay)), ((x .ends .0, subst E (sym stay) (x .ends .1)), tt)),
+          ),
+        ),
+      ),
+    )
 
 pub returns : need.returns
 returns c =

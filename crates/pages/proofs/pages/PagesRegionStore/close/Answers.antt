@@ -1,5 +1,5 @@
-use mathlib.Core.Path.{_≡_, refl, sym, ap, _∙_}
-use Prim.Native.Nat.{_-_, _≤_, _<_}
+use mathlib.Core.Path.{sym, ap, _∙_}
+use Prim.Native.Nat.{_-_}
 use native.Mathlib.Omega.{arith}
 use lib.ListN.{take}
 use Rattle.std.proofs.shelf.Lists.{take-take}
@@ -14,8 +14,8 @@ returns c =
     record {
       answer = sym (close-some (regions-of x) (omega (arith, count-is x)));
       after =
-        ap (λ k. take k (all-of (c .shut .last .self))) (c .shut .ensures .count)
-        ∙ c .shut .ensures .below
-        ∙ sym (ap (λ k. take (k - 1) (regions-of x)) (count-is x) ∙ take-take (x .count - 1) (x .count) (all-of x) (omega arith));
+          ap (λ k. take k (all-of (c .shut .last .self))) (c .shut .ensures .count)
+          ∙ c .shut .ensures .below
+          ∙ sym (ap (λ k. take (k - 1) (regions-of x)) (count-is x) ∙ take-take (x .count - 1) (x .count) (all-of x) (omega arith));
       rule = ap pages-rule (c .shut .ensures .most);
     }

@@ -1,9 +1,9 @@
-use mathlib.Core.Path.{_≡_, refl, sym, ap, _∙_}
+use mathlib.Core.Path.{refl, sym, ap, _∙_}
 use mathlib.Core.List.{[], _∷_, _++_}
 use mathlib.Core.Bool.{true, false}
-use Prim.Native.Nat.{_+_, _-_, _*_, _≤_, _<_}
+use Prim.Native.Nat.{_+_}
 use native.Mathlib.Omega.{arith}
-use lib.ListN.{length, getD, set, take}
+use lib.ListN.{getD, set, take}
 use Rattle.std.specs.declared.result.Result.the-variants.{Ok}
 use Rattle.std.proofs.shelf.Tests.{le-leb, lt-leb}
 use Rattle.regions.specs.Rules.{pages-of, pages-rule}
@@ -42,10 +42,10 @@ returns c =
     record {
       answer = ap Ok (sym (length-is x p h)) ∙ sym (t .0);
       after =
-        ap (λ k. take k (all-of (c .append .last .self))) (c .append .ensures .count)
-        ∙ ap (take (x .count)) (c .append .ensures .held)
-        ∙ take-set-in (x .count) (all-of x) p (getD (all-of x) p [] ++ new)
-        ∙ ap (λ r. set (regions-of x) p (r ++ new)) (sym (region-is x p h))
-        ∙ sym (t .1);
+          ap (λ k. take k (all-of (c .append .last .self))) (c .append .ensures .count)
+          ∙ ap (take (x .count)) (c .append .ensures .held)
+          ∙ take-set-in (x .count) (all-of x) p (getD (all-of x) p [] ++ new)
+          ∙ ap (λ r. set (regions-of x) p (r ++ new)) (sym (region-is x p h))
+          ∙ sym (t .1);
       rule = ap pages-rule (c .append .ensures .most);
     }

@@ -1,4 +1,4 @@
-use mathlib.Core.Path.{_≡_, sym, ap, _∙_}
+use mathlib.Core.Path.{sym, ap, _∙_}
 use Rattle.regions.specs.Model.{within}
 use Rattle.regions.proofs.Tables.{front-is}
 use Rattle.pages.proofs.States.{lengths-are}

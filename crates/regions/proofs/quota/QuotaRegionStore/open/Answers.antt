@@ -1,5 +1,4 @@
 use mathlib.Core.Path.{refl, sym, ap, _∙_}
-use native.Mathlib.Omega.{arith}
 use Rattle.regions.specs.Rules.{quota-rule}
 use Rattle.regions.proofs.Quotas.{open-room, open-denied}
 use Rattle.regions.proofs.quota.QuotaRegionStore.open.Needs as need

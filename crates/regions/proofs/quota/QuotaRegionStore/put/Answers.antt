@@ -11,7 +11,7 @@ returns-then-branch g c =
     let s = g .S·RegionStore in
     let x = c .args .self .now in
     let e : quota-room (x .quota) (s .regions (x .store)) (c .args .position) 2 ≡ Ok true =
-      sym (c .room .ensures) ∙ c .in-Continue-room .was tt ∙ ap Ok (c .if-branch .taken)
+    sym (c .room .ensures) ∙ c .in-Continue-room .was tt ∙ ap Ok (c .if-branch .taken)
     in
     let t = put-room (x .quota) (s .grants (x .store)) (s .regions (x .store)) (c .args .position) (c .args .first ∷ c .args .second ∷ []) e in
     record {
@@ -25,7 +25,7 @@ returns-else-branch g c =
     let s = g .S·RegionStore in
     let x = c .args .self .now in
     let e : quota-room (x .quota) (s .regions (x .store)) (c .args .position) 2 ≡ Ok false =
-      sym (c .room .ensures) ∙ c .in-Continue-room .was tt ∙ ap Ok (c .if-branch .left)
+    sym (c .room .ensures) ∙ c .in-Continue-room .was tt ∙ ap Ok (c .if-branch .left)
     in
     let d = put-denied (x .quota) (s .grants (x .store)) (s .regions (x .store)) (c .args .position) (c .args .first ∷ c .args .second ∷ []) e in
     record { answer = sym (d .0); after = sym (d .1); rule = refl }
