@@ -8,6 +8,7 @@ use std::env;
 pub(crate) enum Command {
     Help,
     Tokens(Option<String>),
+    Store,
 }
 
 // The command that the words say; none at all ask for help.
@@ -23,7 +24,16 @@ pub(crate) fn parse(rt: &LibcRuntime) -> Result<Command, Failure> {
     }
     match word.as_str() {
         "tokens" => Ok(Command::Tokens(file)),
-        "--help" | "-h" | "help" => Ok(Command::Help),
+        "store" => alone(Command::Store, file),
+        "--help" | "-h" | "help" => alone(Command::Help, file),
         _ => Err(Failure::UnknownWord(word)),
+    }
+}
+
+// A command that takes no word.
+fn alone(command: Command, extra: Option<String>) -> Result<Command, Failure> {
+    match extra {
+        Some(word) => Err(Failure::TooManyWords(word)),
+        None => Ok(command),
     }
 }

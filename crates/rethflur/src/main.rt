@@ -10,11 +10,15 @@ use failure::Failure;
 use failure::FailureDisplay;
 use failure::FailureFromIo;
 use input::Script;
+use store_shell::shell::serve;
 
 const HELP: &str = "rethflur: the scripts of a driver kit
 
 usage:
   rethflur tokens [FILE]   list the tokens of a script: line:column, place, kind and text
+  rethflur store           answer store operations from standard input, one a line:
+                             store arena W | store pages P, then any number of: quota Q
+                             open | put POSITION WORD WORD | get POSITION PLACE | close | clear
   rethflur --help          print this text
 
 Without FILE the script is read from standard input. A script that is refused is reported as
@@ -29,6 +33,7 @@ fn run(rt: &LibcRuntime) -> Result<(), Failure> {
             Ok(())
         }
         Command::Tokens(file) => tokens::list(rt, &Script::read(rt, file)?),
+        Command::Store => Ok(serve(rt)?),
     }
 }
 
