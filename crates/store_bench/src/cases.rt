@@ -99,7 +99,7 @@ fn drops<S: RegionStore>(
 }
 
 // What holds of every store: `most` is a number of words that it can hold.
-pub fn store_cases<S: RegionStore>(
+pub(crate) fn store_cases<S: RegionStore>(
     rt: &LibcRuntime,
     timed: bool,
     store: &mut S,
@@ -180,7 +180,7 @@ fn low_puts(
 }
 
 // What holds of an arena: a put below other regions moves the words above it, and no others.
-pub fn arena_cases(rt: &LibcRuntime, timed: bool, arena: &mut Arena) -> Result<(), AnyError> {
+pub(crate) fn arena_cases(rt: &LibcRuntime, timed: bool, arena: &mut Arena) -> Result<(), AnyError> {
     let small = low_puts(rt, arena, 16, 1000)?;
     let large = low_puts(rt, arena, 16, 32000)?;
     tell(
@@ -207,7 +207,7 @@ pub fn arena_cases(rt: &LibcRuntime, timed: bool, arena: &mut Arena) -> Result<(
 }
 
 // What holds of a page store: a get walks from the newest page back to the word's.
-pub fn page_cases(rt: &LibcRuntime, timed: bool, pages: &mut Pages) -> Result<(), AnyError> {
+pub(crate) fn page_cases(rt: &LibcRuntime, timed: bool, pages: &mut Pages) -> Result<(), AnyError> {
     pages.clear();
     let _ = pages.open();
     fill(pages, 0, 4096);

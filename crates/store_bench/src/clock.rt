@@ -15,14 +15,14 @@ pub struct Case {
 }
 
 // The time since then, in nanoseconds.
-pub fn since(rt: &LibcRuntime, start: Instant) -> Result<u64, AnyError> {
+pub(crate) fn since(rt: &LibcRuntime, start: Instant) -> Result<u64, AnyError> {
     let nanos = start.elapsed(rt)?.as_nanos();
     Ok(u64::try_from(nanos).unwrap_or(u64::MAX))
 }
 
 // Prints whether a case came out as it should: what does not grow stays within three times and what the clock itself
 // may take, what grows is beyond three times.
-pub fn tell(rt: &LibcRuntime, timed: bool, case: Case) -> Result<(), AnyError> {
+pub(crate) fn tell(rt: &LibcRuntime, timed: bool, case: Case) -> Result<(), AnyError> {
     let flat = case.large <= case.small.saturating_mul(3).saturating_add(40);
     let steep = case.large >= case.small.saturating_mul(3);
     let name = case.name;

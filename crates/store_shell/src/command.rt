@@ -16,7 +16,7 @@ pub enum Fault {
 }
 
 impl Fault {
-    pub fn text(self) -> &'static str {
+    pub(crate) fn text(self) -> &'static str {
         match self {
             Fault::NoCommand => "the commands are store, open, put, get, close and clear",
             Fault::NotANumber => "this number is not an unsigned decimal, or too large",
@@ -109,7 +109,7 @@ fn make(heap: Global, words: &[&str]) -> Result<Command, Fault> {
 }
 
 // The command that a line says.
-pub fn parse(heap: Global, line: &str) -> Result<Command, Fault> {
+pub(crate) fn parse(heap: Global, line: &str) -> Result<Command, Fault> {
     let words: Vec<&str> = match line.split_ascii_whitespace().collect(heap) {
         Ok(words) => words,
         Err(_) => return Err(Fault::NoMemory),
