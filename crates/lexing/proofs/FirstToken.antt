@@ -51,7 +51,7 @@ right-only offset s (Ok (t, rest)) h =
     ap (λ p. answered p (t .bytes) rest (Ok (t .kind))) (h .place)
     ∙ sym (token-cut offset s (h .blanks) (t .bytes ++ rest) (t .bytes) rest (Ok (t .kind)) (h .blank-all) (h .whole) (cut-fits (t .kind) (t .bytes) rest (h .fits)))
 right-only offset s (Err e) h =
-    let c = cut-fails (e .question) (h .body) (h .fails) in
+    let c = cut-fails (h .body) (h .fails) in
     ap (λ p. answered p (c .0) (c .1) (Err (e .question))) (h .place) ∙ sym (token-cut offset s (h .blanks) (h .body) (c .0) (c .1) (Err (e .question)) (h .blank-all) (h .whole) (c .2))
 
 right-says : (offset : ℕ) (s blanks body bytes rest : List ℕ) (k : Result Kind Question) → every blank blanks ≡ true → blanks ++ body ≡ s → bytes ++ rest ≡ body → Says k body bytes rest

@@ -14,12 +14,12 @@ use Rattle.std.specs.declared.result.Result.the-variants.{Ok, Err}
 use Rattle.lexing.specs.declared.token.Kind.{Kind}
 use Rattle.lexing.specs.declared.token.Kind.the-variants.{End, Name, Keyword, Numeral, Mark}
 use Rattle.lexing.specs.declared.fault.Question.{Question}
-use Rattle.lexing.specs.declared.fault.Question.the-variants.{TextLength, FirstByte, NumeralFits, NameLength, TokenCount}
+use Rattle.lexing.specs.declared.fault.Question.the-variants.{FirstByte, NumeralFits, NameLength}
 use Rattle.lexing.specs.Classes.{blank, letter, digit, mark, minus, word-byte, letter-like}
 use Rattle.lexing.specs.Runs.{run, begins, every}
 use Rattle.lexing.specs.Numerals.{digits, number-of}
 use Rattle.lexing.specs.Tokens.{keyword, word-kind, numeral-kind}
-use Rattle.lexing.specs.Laws.{Word, Fits, Fails, Stray, written}
+use Rattle.lexing.specs.Laws.{Word, Fits, Fails, first-byte, numeral-fits, name-length, Stray, written}
 use Rattle.lexing.proofs.ByteClasses.{minus-is}
 use Rattle.lexing.proofs.Longest.{run-all, run-over, run-is}
 use Rattle.lexing.proofs.KindCases.{kind-keyword, kind-name, kind-overlong, kind-number, kind-lettered, kind-unfit, number-over, number-none, number-digits}
@@ -58,7 +58,7 @@ see-word bytes rest w = by-keyword (keyword bytes) refl
           rest = rest;
           kind = Err NameLength;
           cut = recast (bytes ++ rest) bytes rest (word-kind bytes) (Err NameLength) (cut-word bytes rest w) (kind-overlong bytes n l);
-          says = record { bytes = bytes; rest = rest; whole = refl; word = w; no-keyword = n; long = l };
+          says = name-length (record { bytes = bytes; rest = rest; whole = refl; word = w; no-keyword = n; long = l });
         }
 
     by-keyword : (v : Bool) → keyword bytes ≡ v → Sight (bytes ++ rest)
@@ -82,11 +82,11 @@ see-numeral negative ds rest d o = by-letter (begins letter-like rest) refl
     by-number l true t = seen (Ok Numeral) (kind-number (written negative ds) rest l t) (t, o, l)
     by-number l false t =
         seen (Err NumeralFits) (kind-unfit (written negative ds) rest t)
-        (record { negative = negative; ds = ds; rest = rest; whole = refl; some = d; longest = o; wrong = inr (number-none negative ds d t) })
+        (numeral-fits (record { negative = negative; ds = ds; rest = rest; whole = refl; some = d; longest = o; wrong = inr (number-none negative ds d t) }))
 
     by-letter : (v : Bool) → begins letter-like rest ≡ v → Sight (written negative ds ++ rest)
     by-letter true t =
-        seen (Err NumeralFits) (kind-lettered (written negative ds) rest t) (record { negative = negative; ds = ds; rest = rest; whole = refl; some = d; longest = o; wrong = inl t })
+        seen (Err NumeralFits) (kind-lettered (written negative ds) rest t) (numeral-fits (record { negative = negative; ds = ds; rest = rest; whole = refl; some = d; longest = o; wrong = inl t }))
     by-letter false t = by-number t (isSome (number-of (written negative ds))) refl
 
 -- a letter, then the word as far as it goes
@@ -113,7 +113,7 @@ see-digits false bs t =
 -- a mark, or nothing
 see-other : (b : ℕ) (bs : List ℕ) → blank b ≡ false → letter b ≡ false → digit b ≡ false → (minus b && begins digit bs) ≡ false → (v : Bool) → mark b ≡ v → Sight (b ∷ bs)
 see-other b bs k l d m true t = record { bytes = b ∷ []; rest = bs; kind = Ok Mark; cut = cut-mark b bs t; says = (refl, ap (λ v. v && true) t) }
-see-other b bs k l d m false t = let h : Stray (b ∷ bs) = (k, l, d, t, m) in record { bytes = []; rest = b ∷ bs; kind = Err FirstByte; cut = cut-stray (b ∷ bs) h; says = h }
+see-other b bs k l d m false t = let h : Stray (b ∷ bs) = (k, l, d, t, m) in record { bytes = []; rest = b ∷ bs; kind = Err FirstByte; cut = cut-stray (b ∷ bs) h; says = first-byte h }
 
 see-minus : (b : ℕ) (bs : List ℕ) → blank b ≡ false → letter b ≡ false → digit b ≡ false → (v : Bool) → minus b ≡ v → Sight (b ∷ bs)
 see-minus b bs k l d false t = see-other b bs k l d (ap (λ v. v && begins digit bs) t) (mark b) refl
@@ -157,10 +157,9 @@ cut-fits Numeral bytes rest f =
 cut-fits Mark bytes rest f = one-mark bytes rest (f .0) (f .1)
 
 -- where a question fails, a body is cut as that question
-pub cut-fails : (q : Question) (body : List ℕ) → Fails q body → (bytes : List ℕ) × (rest : List ℕ) × Cut body bytes rest (Err q)
-cut-fails TextLength body f = absurd f
-cut-fails FirstByte body f = ([], body, cut-stray body f)
-cut-fails NumeralFits body f =
+pub cut-fails : {q : Question} (body : List ℕ) → Fails q body → (bytes : List ℕ) × (rest : List ℕ) × Cut body bytes rest (Err q)
+cut-fails body (first-byte f) = ([], body, cut-stray body f)
+cut-fails body (numeral-fits f) =
     let n = written (f .negative) (f .ds) in
     let e : numeral-kind n (f .rest) ≡ Err NumeralFits = ⊎-elim (kind-lettered n (f .rest)) (λ h. kind-unfit n (f .rest) (number-over (f .negative) (f .ds) (f .some) h)) (f .wrong) in (
       n,
@@ -168,10 +167,9 @@ cut-fails NumeralFits body f =
       subst (λ (b : List ℕ). Cut b n (f .rest) (Err NumeralFits)) (f .whole)
           (recast (n ++ f .rest) n (f .rest) (numeral-kind n (f .rest)) (Err NumeralFits) (cut-numeral (f .negative) (f .ds) (f .rest) (f .some) (f .longest)) e),
     )
-cut-fails NameLength body f = (
+cut-fails body (name-length f) = (
   f .bytes,
   f .rest,
   subst (λ (b : List ℕ). Cut b (f .bytes) (f .rest) (Err NameLength)) (f .whole)
       (recast (f .bytes ++ f .rest) (f .bytes) (f .rest) (word-kind (f .bytes)) (Err NameLength) (cut-word (f .bytes) (f .rest) (f .word)) (kind-overlong (f .bytes) (f .no-keyword) (f .long))),
 )
-cut-fails TokenCount body f = absurd f

@@ -70,13 +70,11 @@ pub record Overlong (body : List ℕ) : Type 0 where
   pub no-keyword : keyword bytes ≡ false
   pub long : 24 < length bytes
 
--- what stands where a question about one token fails
-abbrev pub Fails : Question → List ℕ → Type 0
-Fails TextLength body = ⊥
-Fails FirstByte body = Stray body
-Fails NumeralFits body = Unfit body
-Fails NameLength body = Overlong body
-Fails TokenCount body = ⊥
+-- what stands where a question about one token fails; the other questions are not about one token
+pub data Fails : Question → List ℕ → Type 0 where
+  first-byte : {body : List ℕ} → Stray body → Fails FirstByte body
+  numeral-fits : {body : List ℕ} → Unfit body → Fails NumeralFits body
+  name-length : {body : List ℕ} → Overlong body → Fails NameLength body
 
 -- a text that stands `offset` bytes into the whole begins with no token: behind its blanks a question fails
 pub record Refused (offset : ℕ) (s : List ℕ) (e : Refusal) : Type 0 where

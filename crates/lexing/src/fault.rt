@@ -6,6 +6,17 @@ pub enum Question {
     NumeralFits,
     NameLength,
     TokenCount,
+    Grammar,
+    Nesting,
+    NewFunction,
+    MainFunction,
+    Room,
+    KnownName,
+    NewName,
+    NeededType,
+    ClosedRegion,
+    TypeDepth,
+    CallShape,
 }
 
 #[derive(Clone, Copy)]

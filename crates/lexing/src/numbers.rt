@@ -28,6 +28,17 @@ impl Question {
             Question::NumeralFits => 3,
             Question::NameLength => 4,
             Question::TokenCount => 5,
+            Question::Grammar => 6,
+            Question::Nesting => 7,
+            Question::NewFunction => 8,
+            Question::MainFunction => 9,
+            Question::Room => 10,
+            Question::KnownName => 11,
+            Question::NewName => 12,
+            Question::NeededType => 13,
+            Question::ClosedRegion => 14,
+            Question::TypeDepth => 15,
+            Question::CallShape => 16,
         }
     }
 }

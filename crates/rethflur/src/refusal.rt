@@ -13,6 +13,20 @@ fn question_words(question: Question) -> &'static str {
             "the numeral does not fit 32 signed bits, or a letter or underscore stands directly behind it",
         Question::NameLength => "the name has more than 24 bytes",
         Question::TokenCount => "the text has more than 4096 tokens",
+        Question::Grammar => "this token cannot continue the script",
+        Question::Nesting =>
+            "the block is nested more than 8 deep, or the type's list inside more than 4 others",
+        Question::NewFunction => "an earlier function has this name",
+        Question::MainFunction =>
+            "there is no main without regions, with one int parameter and an int result",
+        Question::Room =>
+            "this is one more than 64 functions, 8 parameters, 8 regions in scope or 32 variables in scope",
+        Question::KnownName => "this name is not known here",
+        Question::NewName => "a variable or a region of this name is in scope",
+        Question::NeededType => "the atom does not have the type that is needed here",
+        Question::ClosedRegion => "the type of the region's block mentions the region",
+        Question::TypeDepth => "the type is nested more than 5 deep",
+        Question::CallShape => "the function has another number of regions or parameters",
     }
 }
 

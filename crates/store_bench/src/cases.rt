@@ -180,7 +180,11 @@ fn low_puts(
 }
 
 // What holds of an arena: a put below other regions moves the words above it, and no others.
-pub(crate) fn arena_cases(rt: &LibcRuntime, timed: bool, arena: &mut Arena) -> Result<(), AnyError> {
+pub(crate) fn arena_cases(
+    rt: &LibcRuntime,
+    timed: bool,
+    arena: &mut Arena,
+) -> Result<(), AnyError> {
     let small = low_puts(rt, arena, 16, 1000)?;
     let large = low_puts(rt, arena, 16, 32000)?;
     tell(
