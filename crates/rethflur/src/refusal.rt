@@ -1,4 +1,8 @@
 // A refusal as a person reads it: the position, the number and the question, the line, and a caret under the place.
+use crate::failure::Failure;
+use crate::failure::FailureFromAlloc;
+use crate::failure::FailureFromIo;
+use crate::input::Script;
 use lexing::fault::Fault;
 use lexing::fault::Question;
 use report::locate::locate;
@@ -53,12 +57,7 @@ fn shown(byte: u8) -> char {
 }
 
 // The message about a text that was refused, with a line feed at its end.
-pub(crate) fn message(
-    heap: Global,
-    name: &str,
-    text: &[u8],
-    fault: Fault,
-) -> Result<String, AllocError> {
+fn message(heap: Global, name: &str, text: &[u8], fault: Fault) -> Result<String, AllocError> {
     let at = locate(text, fault.place);
     let line = at.line;
     let column = at.column;
@@ -75,6 +74,18 @@ pub(crate) fn message(
     }
     out.push_str("^\n")?;
     Ok(out)
+}
+
+// Prints the message on standard error.
+pub(crate) fn refuse(rt: &LibcRuntime, script: &Script, fault: Fault) -> Result<(), Failure> {
+    let text = message(
+        rt.alloc(),
+        script.name.as_str(),
+        script.text.as_slice(),
+        fault,
+    )?;
+    rt.stderr().print(text)?;
+    Err(Failure::Shown)
 }
 
 #[cfg(test)]

@@ -1,10 +1,8 @@
 // The table of a script's tokens.
 use crate::failure::Failure;
-use crate::failure::FailureFromAlloc;
 use crate::failure::FailureFromIo;
 use crate::input::Script;
-use crate::refusal::message;
-use lexing::fault::Fault;
+use crate::refusal::refuse;
 use lexing::lex::token_at;
 use lexing::scan::scan;
 use lexing::token::Kind;
@@ -30,17 +28,6 @@ fn row(rt: &LibcRuntime, text: &[u8], token: Token<'_>) -> io::Result<()> {
     let kind = kind_word(token.kind);
     let bytes = from_utf8(token.bytes).unwrap_or("?");
     println!(rt, "{position:<9} {place:>5}  {kind:<7}  {bytes}")
-}
-
-fn refuse(rt: &LibcRuntime, script: &Script, fault: Fault) -> Result<(), Failure> {
-    let text = message(
-        rt.alloc(),
-        script.name.as_str(),
-        script.text.as_slice(),
-        fault,
-    )?;
-    rt.stderr().print(text)?;
-    Err(Failure::Shown)
 }
 
 // Lists the tokens of a script, and how many there are; or says why it is refused.
