@@ -20,6 +20,7 @@ pub mod Exhausted
 pub mod References
 pub mod Striking
 pub mod CallsKeep
+pub mod RunOver
 pub mod Fitting
 pub mod Told
 pub mod Parts

@@ -1,5 +1,5 @@
 // What holds of the plain run, of striking out and of reading lists, each law named by the contract of a function.
-ghost use Rattle.language.specs.RunLaws.{One-stop, One-answer, Calls-keep, Resume-counts, Goes-on, Exhausted-exactly, Struck-spelling, Struck-alike, Reads-once, Reference-says};
+ghost use Rattle.language.specs.RunLaws.{One-stop, One-answer, Calls-keep, Run-over, Resume-counts, Goes-on, Exhausted-exactly, Struck-spelling, Struck-alike, Reads-once, Reference-says};
 ghost use Rattle.language.specs.RunExamples.{Worked};
 
 // every resume comes to exactly one stop, and its words never run out
@@ -19,6 +19,13 @@ pub fn one_answer() -> u8
 // a refusal changes no session, and a list keeps its length
 pub fn calls_keep() -> u8
     ensures { λ _. ⌜ Calls-keep ⌝ }
+{
+    0
+}
+
+// after a resume that is told, the run is over exactly unless it ended spent or list full
+pub fn run_over() -> u8
+    ensures { λ _. ⌜ Run-over ⌝ }
 {
     0
 }

@@ -1,0 +1,5 @@
+use Rattle.language.proofs.running.run_over.Needs as need
+use Rattle.language.proofs.RunOver.{proof}
+
+pub returns : need.returns
+returns c = proof
