@@ -99,7 +99,7 @@ examples =
     -- a list of the depth that is allowed may be made, and a region in it is asked for before its depth
     ("fun main(n: int): int { let x = region a { let y = nil@a(list@a(list@a(list@a(list@a(int))))); n }; x }", admitted) ∷
     ("fun main(n: int): int { let x = region a { let y = nil@a(list@a(list@a(list@a(list@a(list@b(int)))))); n }; x }", refused 11 90) ∷
-    -- atoms from the left, each by its name and its type before the next, and the tail of a cons before the depth
+    -- atoms from the left, each by its name and its type before the next; no tail fits a list too deep to be made
     ("fun f[r](l: list@r(int)): int { let x = add l z; x } fun main(n: int): int { n }", refused 13 44) ∷
     ("fun f[r](l: list@r(int)): int { let c = cons@r(y, z); 0 } fun main(n: int): int { n }", refused 11 47) ∷
     ("fun f[r](l: list@r(int)): int { let c = cons@r(l, l); 0 } fun main(n: int): int { n }", refused 13 50) ∷
