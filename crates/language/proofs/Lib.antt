@@ -29,4 +29,6 @@ pub mod Complete
 pub mod Scripts
 pub mod Places
 pub mod Readings
+pub mod Depths
+pub mod RefusedOnce
 pub mod Rooms

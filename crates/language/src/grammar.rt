@@ -1,6 +1,6 @@
 // The theorems of the grammar and of reading, each named by a contract.
 ghost use mathlib.Core.Path.{_≡_};
-ghost use Rattle.language.specs.ReadingLaws.{Spells-one, Reads-spelled, Refuses-rightly};
+ghost use Rattle.language.specs.ReadingLaws.{Spells-one, Reads-spelled, Refuses-rightly, Refused-once};
 ghost use Rattle.language.specs.ReadingExamples.{Reading-examples};
 
 // A token list spells at most one script.
@@ -23,6 +23,14 @@ pub fn reads_spelled() -> u8
 pub fn refuses_rightly() -> u8
     ensures is { λ r. ⌜ r ≡ 0 ⌝ }
     ensures law { λ _. ⌜ Refuses-rightly ⌝ }
+{
+    0
+}
+
+// No text is refused for two questions, or at two places.
+pub fn refused_once() -> u8
+    ensures is { λ r. ⌜ r ≡ 0 ⌝ }
+    ensures law { λ _. ⌜ Refused-once ⌝ }
 {
     0
 }
