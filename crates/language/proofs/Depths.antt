@@ -8,8 +8,8 @@ use lib.Dec.{leb}
 use Rattle.lexing.specs.declared.token.Kind.{Kind}
 use Rattle.lexing.specs.declared.token.Kind.the-variants.{End, Name, Keyword, Numeral, Mark}
 use Rattle.lexing.specs.Tokens.{Lexeme, same-bytes}
-use Rattle.language.specs.Syntax.{Ident, Ty, int, list, Atom, var, num, Op, add, sub, mul, div, rem, eq, lt, Right, atom, oper, nil, cons, call, test, region, split, Block, last, bind, print, Param, Fun, Script}
-use Rattle.language.specs.Spelling.{Spelled, word, word-at, block-at, list-at, name, number, mark, Fits, Matches, none, more, op-word, spell-name, spell-atom, spell-commas, spell-regions, spell-elements, spell-type, spell-right, spell-inside, spell-param, spell-fun, spell}
+use Rattle.language.specs.Syntax.{Ident, Ty, int, list, Atom, var, num, Op, add, sub, mul, div, rem, eq, lt, Right, atom, oper, nil, cons, call, test, region, split, Block, last, bind, print, Param, Script}
+use Rattle.language.specs.Spelling.{Spelled, word, word-at, block-at, list-at, name, number, mark, Fits, Matches, none, more, op-word, spell-name, spell-atom, spell-commas, spell-regions, spell-elements, spell-type, spell-right, spell-inside, spell-param, spell}
 use Rattle.language.specs.Nesting.{shallow, most-blocks, most-lists}
 
 -- the blocks that are open, and the lists around the type that comes

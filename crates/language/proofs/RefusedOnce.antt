@@ -1,6 +1,6 @@
 -- A text is refused for one question at one place.
 use mathlib.Core.Path.{_≡_, refl, sym, ap, _∙_, subst}
-use mathlib.Core.Bool.{true, false}
+use mathlib.Core.Bool.{true}
 use mathlib.Core.List.{List, [], _∷_, _++_, append-assoc}
 use Prim.Native.Nat.{ℕ}
 use native.Mathlib.Omega.{arith}
@@ -8,14 +8,12 @@ use lib.ListN.{length}
 use Rattle.std.specs.declared.result.Result.{Result}
 use Rattle.std.specs.declared.result.Result.the-variants.{Ok, Err}
 use Rattle.lexing.specs.Tokens.{Lexeme, Refusal}
-use Rattle.lexing.specs.Texts.{tokens-of}
 use Rattle.lexing.specs.Numbers.{question-number}
 use Rattle.language.specs.Syntax.{Script}
-use Rattle.language.specs.Verdict.{Refused}
 use Rattle.language.specs.Spelling.{Spelled, Fits, Matches, none, more, spell, Spells}
 use Rattle.language.specs.Nesting.{shallow, shallows, most-blocks, most-lists}
 use Rattle.language.specs.Reading.{here}
-use Rattle.language.specs.ReadingLaws.{Begun, Stops, Cannot-go-on, Too-deep, Refused-for, tokens, cannot-go-on, too-deep, Refused-once}
+use Rattle.language.specs.ReadingLaws.{Begun, Stops, Cannot-go-on, Too-deep, tokens, cannot-go-on, too-deep, Refused-once}
 use Rattle.language.proofs.Fitting.{false-true, matches-append, shallows-first}
 use Rattle.language.proofs.Depths.{opened, Exact, exact, same-depth}
 
@@ -100,10 +98,10 @@ too-far d before next t m e k b =
     let r = entry-of (d .before) t m (b .entries) (subst (λ o. Matches o (b .entries)) e (b .fit)) in
     let flat = shallow-inside (r .front) (r .entry) (r .back) (subst (λ o. shallows most-blocks most-lists o ≡ true) (r .are) (b .fine)) in
     let spelt : spell (b .one ∷ b .others) ≡ r .front ++ (r .entry ∷ (r .back ++ next)) =
-        b .spelled ∙ ap (λ (o : List Spelled). o ++ next) (r .are) ∙ append-assoc (r .front) (r .entry ∷ r .back) next in
+    b .spelled ∙ ap (λ (o : List Spelled). o ++ next) (r .are) ∙ append-assoc (r .front) (r .entry ∷ r .back) next in
     let alike = same-depth (opened 0 0) (d .next) (r .back ++ next) (d .entry) (r .entry) (d .token) (d .begun .fit) (r .fit)
-        (subst (Exact (opened 0 0)) (d .begun .spelled) (exact (d .begun .one ∷ d .begun .others)))
-        (subst (Exact (opened 0 0)) spelt (exact (b .one ∷ b .others))) (d .fits) (subst (Fits (r .entry)) k (r .fits)) in
+    (subst (Exact (opened 0 0)) (d .begun .spelled) (exact (d .begun .one ∷ d .begun .others)))
+    (subst (Exact (opened 0 0)) spelt (exact (b .one ∷ b .others))) (d .fits) (subst (Fits (r .entry)) k (r .fits)) in
     false-true (sym (d .deep) ∙ alike ∙ flat)
 
 ok-is : {x y : List Lexeme} → _≡_ {A = Result (List Lexeme) Refusal} (Ok x) (Ok y) → x ≡ y
