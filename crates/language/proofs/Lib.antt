@@ -20,6 +20,7 @@ pub mod Exhausted
 pub mod References
 pub mod Striking
 pub mod CallsKeep
+pub mod RunOver
 pub mod Fitting
 pub mod Told
 pub mod Parts
@@ -28,4 +29,6 @@ pub mod Complete
 pub mod Scripts
 pub mod Places
 pub mod Readings
+pub mod Depths
+pub mod RefusedOnce
 pub mod Rooms

@@ -1,7 +1,7 @@
 -- Worked examples of reading and checking, by computation.
 use mathlib.Core.Path.{_≡_}
-use mathlib.Core.List.{List, [], _∷_, map}
-use Prim.Native.Nat.{ℕ}
+use mathlib.Core.List.{List, [], _∷_, _++_, map}
+use Prim.Native.Nat.{ℕ, zero, suc, _+_, _/_, _%_}
 use Prim.Native.String.{String}
 use lib.Chars.{codes}
 use lib.ListN.{length}
@@ -15,11 +15,15 @@ pub data Outcome : Type 0 where
   refused : ℕ → ℕ → Outcome
 
 -- the outcome of reading a text and then checking it
-abbrev pub outcome : String → Outcome
-outcome text = elim (reading (codes text)) [
+abbrev pub outcome-of : List ℕ → Outcome
+outcome-of text = elim (reading text) [
   | Err e ↦ refused (e .number) (e .place)
-  | Ok F ↦ elim (checking (length (codes text)) F) [ Err e ↦ refused (e .number) (e .place) | Ok G ↦ admitted ]
+  | Ok F ↦ elim (checking (length text) F) [ Err e ↦ refused (e .number) (e .place) | Ok G ↦ admitted ]
 ]
+
+-- the same, of a text by its letters
+abbrev pub outcome : String → Outcome
+outcome text = outcome-of (codes text)
 
 -- texts, each with the outcome that it has
 abbrev pub examples : List (String × Outcome)
@@ -92,8 +96,28 @@ examples =
     ("fun f[r](x: int): int { x } fun main(n: int): int { let k = call f[a](m); k }", refused 11 67) ∷
     ("fun f[r](l: list@r(int)): int { let k = case l { z } else l h { 1 }; k } fun main(n: int): int { n }", refused 11 49) ∷
     ("fun main(n: int): int { let k = if n { z } else { y }; k }", refused 11 39) ∷
+    -- a list of the depth that is allowed may be made, and a region in it is asked for before its depth
+    ("fun main(n: int): int { let x = region a { let y = nil@a(list@a(list@a(list@a(list@a(int))))); n }; x }", admitted) ∷
+    ("fun main(n: int): int { let x = region a { let y = nil@a(list@a(list@a(list@a(list@a(list@b(int)))))); n }; x }", refused 11 90) ∷
+    -- atoms from the left, each by its name and its type before the next; no tail fits a list too deep to be made
+    ("fun f[r](l: list@r(int)): int { let x = add l z; x } fun main(n: int): int { n }", refused 13 44) ∷
+    ("fun f[r](l: list@r(int)): int { let c = cons@r(y, z); 0 } fun main(n: int): int { n }", refused 11 47) ∷
+    ("fun f[r](l: list@r(int)): int { let c = cons@r(l, l); 0 } fun main(n: int): int { n }", refused 13 50) ∷
+    ("fun f[r](l: list@r(list@r(list@r(list@r(list@r(int)))))): int { let c = cons@r(l, l); 0 } fun main(n: int): int { n }", refused 13 82) ∷
+    ("fun g(a: int, b: int): int { a } fun f[r](l: list@r(int)): int { let k = call g(l, z); k } fun main(n: int): int { n }", refused 13 80) ∷
+    -- the atom tested, and the list taken apart, before the blocks
+    ("fun f[r](l: list@r(int)): int { let x = if l { z } else { 0 }; x } fun main(n: int): int { n }", refused 13 43) ∷
+    ("fun main(n: int): int { let x = case n { z } else h t { 0 }; x }", refused 13 37) ∷
     []
 
--- each text has its outcome
-abbrev pub Examples-hold : Type 0
-Examples-hold = map (λ e. outcome (e .0)) examples ≡ map (λ e. e .1) examples
+-- so many functions before a text, named `aa`, `ab` and on to `ah`, then `ba` and on
+abbrev pub crowd : ℕ → List ℕ → List ℕ
+crowd zero text = text
+crowd (suc k) text = crowd k (codes "fun " ++ ((97 + k / 8) ∷ ((97 + k % 8) ∷ (codes "(): int { 0 } " ++ text))))
+
+-- Each text has its outcome; and a script has at most 64 functions, where a name taken is refused before the count.
+pub record Examples-hold : Type 0 where
+  pub texts : map (λ e. outcome (e .0)) examples ≡ map (λ e. e .1) examples
+  pub functions-most : outcome-of (crowd 63 (codes "fun main(n: int): int { n }")) ≡ admitted
+  pub functions-too-many : outcome-of (crowd 64 (codes "fun main(n: int): int { n }")) ≡ refused 10 1284
+  pub functions-name-taken : outcome-of (crowd 64 (codes "fun aa(): int { 0 }")) ≡ refused 8 1284

@@ -73,3 +73,7 @@ pub data Refused-for (text : List ℕ) : Refused → Type 0 where
 -- whatever reading refuses, it refuses for that
 abbrev pub Refuses-rightly : Type 0
 Refuses-rightly = (text : List ℕ) (e : Refused) → reading text ≡ Err e → Refused-for text e
+
+-- and no text is refused for two questions, or at two places
+abbrev pub Refused-once : Type 0
+Refused-once = (text : List ℕ) (e e' : Refused) → Refused-for text e → Refused-for text e' → e ≡ e'

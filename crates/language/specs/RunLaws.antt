@@ -2,15 +2,16 @@
 use mathlib.Core.Path.{_≡_}
 use mathlib.Core.Bool.{false}
 use mathlib.Core.List.{List, _++_}
+use mathlib.Core.Logic.{_↔_, _⊎_}
 use Prim.Native.Nat.{ℕ, _+_, _≤_, _<_}
 use lib.IntN.{ℤ}
 use lib.ListN.{length}
-use Rattle.std.specs.declared.option.Option.the-variants.{Some}
+use Rattle.std.specs.declared.option.Option.the-variants.{Some, None}
 use Rattle.regions.specs.Model.{Rule, Regions}
 use Rattle.language.specs.Syntax.{Script}
 use Rattle.language.specs.Types.{RegionType}
 use Rattle.language.specs.Values.{Value}
-use Rattle.language.specs.Questions.{spent, full, exhausted, grows, Stint, Stop, Reaches, Comes-to, begun}
+use Rattle.language.specs.Questions.{Ending, spent, full, exhausted, grows, Stint, Stop, Reaches, Comes-to, begun}
 use Rattle.language.specs.Plain.{State, Placed, next, started}
 use Rattle.language.specs.Carried.{carried}
 use Rattle.language.specs.PlainSession.{Session, Run, Refusal, Call, resume, Told, told, refused, answered, stopped, resumed}
@@ -34,6 +35,15 @@ pub record Calls-keep : Type 0 where
   pub refused-session : (grants : Rule) (c : Call) (s : Session) (r : Refusal) → answered grants c s .0 ≡ refused r → answered grants c s .1 ≡ s
   pub list-length : (grants : Rule) (units : ℕ) (entries : List ℤ) (s : Session) (t : Told) → answered grants (resume units entries) s .0 ≡ told t →
       length (t .entries) ≡ length entries
+
+-- the endings after which a run can be resumed
+abbrev pub Pauses : Ending → Type 0
+Pauses e = (e ≡ spent) ⊎ (e ≡ full)
+
+-- After a resume that is told, the run is over exactly unless it ended so.
+abbrev pub Run-over : Type 0
+Run-over = (grants : Rule) (units : ℕ) (entries : List ℤ) (s : Session) (t : Told) → answered grants (resume units entries) s .0 ≡ told t →
+    (answered grants (resume units entries) s .1 .run ≡ None) ↔ (Pauses (t .ending) → ⊥)
 
 -- Striking out the region words in the tokens of a script leaves the tokens of the struck-out script, each at its place.
 abbrev pub Struck-spelling : Type 0

@@ -32,3 +32,11 @@ cut-program = program "fun main(n: int): int { let q = div -7 n; print q; let r 
 -- leaves one region and enters another
 abbrev pub twice-program : Option Script
 twice-program = program "fun main(n: int): int { let x = region a { let e = nil@a(int); let c = cons@a(n, e); n }; let y = region b { let e = nil@b(int); let c = cons@b(x, e); x }; y }"
+
+-- calls itself without end, each time out of two new regions
+abbrev pub opening-program : Option Script
+opening-program = program "fun f(n: int): int { let x = region a { let y = region b { let z = call f(n); z }; y }; x } fun main(n: int): int { let x = call f(n); x }"
+
+-- chooses by comparing, and subtracts or multiplies
+abbrev pub pick-program : Option Script
+pick-program = program "fun pick(a: int, b: int): int { let c = lt a b; let d = if c { let e = sub a b; e } else { let e = mul a b; e }; d } fun main(n: int): int { let x = call pick(n, 65536); print x; let q = eq x n; print q; let r = rem x n; r }"

@@ -1,5 +1,6 @@
+use mathlib.Core.Path.{refl}
 use Rattle.language.proofs.Readings.{spells-one}
 use Rattle.language.proofs.grammar.spells_one.Needs as need
 
 pub returns : need.returns
-returns c = spells-one
+returns c = record { is = refl; law = spells-one }
