@@ -9,6 +9,7 @@ use Rattle.std.specs.declared.result.Result.the-variants.{Ok, Err}
 use Rattle.std.proofs.shelf.Lists.{length-push, length-set, length-take-le, getD-take, getD-drop, take-take}
 use Rattle.std.proofs.shelf.Tests.{le-leb, lt-leb}
 use Rattle.regions.specs.declared.refusal.Refusal.the-variants.{Denied, NoRegion, NoWord}
+use Rattle.regions.specs.Laws.{Countable}
 use Rattle.regions.specs.Model.{region, longer, may-open, open-answer, open-after, may-put, put-answer, put-after, get-answer, close-answer, close-after}
 use Rattle.regions.specs.Rules.{total, capacity, arena-rule}
 use Rattle.regions.proofs.Bounds.{and-true, lengths-at}
@@ -111,6 +112,10 @@ module _ (table : List ℕ) (count : ℕ) (few : count ≤ length table) where
 
   pub used-total : (p n : ℕ) → p < count → total (take count (set table p (getD table p 0 + n))) ≡ total (take count table) + n
   used-total p n h = ap total (used-longer p n h) ∙ total-set (take count table) p n (omega (arith, used-length))
+
+-- a table of 64 lengths has few enough regions to count
+pub arena-countable : (table ws : List ℕ) (count : ℕ) → length table ≡ 64 → count ≤ 64 → Countable (split (take count table) ws)
+arena-countable table ws count slots few = omega (arith, length-split (take count table) ws, used-length table count (omega arith))
 
 -- words written at e into words that were moved up from e
 module _ (table ws ss vs new : List ℕ) (count p e : ℕ) (few : count ≤ length table) (here : p < count) (room : total (take count table) + length new ≤ length ws) (end : e ≡ total (take p table) + getD table p 0) (same : length ss ≡ length ws) (low : (k : ℕ) → k < e → getD ss k 0 ≡ getD ws k 0) (high : (k : ℕ) → e ≤ k → k < total (take count table) → getD ss (k + length new) 0 ≡ getD ws k 0) (same′ : length vs ≡ length ss) (low′ : (k : ℕ) → k < e → getD vs k 0 ≡ getD ss k 0) (mid′ : (k : ℕ) → k < length new → getD vs (e + k) 0 ≡ getD new k 0) (high′ : (k : ℕ) → e + length new ≤ k → getD vs k 0 ≡ getD ss k 0) where

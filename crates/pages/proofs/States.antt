@@ -8,6 +8,7 @@ use lib.ListN.{length, getD, take}
 use lib.Dec.{leb}
 use Rattle.std.proofs.shelf.Lists.{length-push, length-set, length-take-le, getD-take}
 use Rattle.std.proofs.shelf.Tests.{le-leb}
+use Rattle.regions.specs.Laws.{Countable}
 use Rattle.regions.specs.Model.{Regions, lengths, region, longer, may-open, may-put}
 use Rattle.regions.specs.Rules.{pages-of, pages-total, pages-rule}
 use Rattle.regions.proofs.Bounds.{and-true}
@@ -30,6 +31,9 @@ module _ (x : Pages) where
 
   pub count-is : length (regions-of x) ≡ x .count
   count-is = length-take-le (x .count) (all-of x) (omega (arith, all-length, x .few .0))
+
+  pub pages-countable : Countable (regions-of x)
+  pages-countable = omega (arith, count-is, x .few .0)
 
   pub lengths-are : lengths (regions-of x) ≡ take (x .count) (x .lengths)
   lengths-are = counts.lengths-are (x .words) (x .next) (x .tops) (x .lengths) (x .free) (x .left) (x .sized .0) (x .sized .1) (x .sized .2) (x .sized .3) (x .once) (x .count)

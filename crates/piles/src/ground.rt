@@ -39,13 +39,6 @@ pub impl RegionStore for Ground as GroundRegionStore {
         }
     }
 
-    fn within(&self, most: usize) -> bool {
-        match self {
-            Ground::Stretch(arena) => arena.within(most),
-            Ground::Paged(pages) => pages.within(most),
-        }
-    }
-
     fn close(&mut self) -> Result<(), Refusal> {
         match self {
             Ground::Stretch(arena) => arena.close(),

@@ -44,14 +44,6 @@ pub impl RegionStore for Pile as PileRegionStore {
         }
     }
 
-    fn within(&self, most: usize) -> bool {
-        match self {
-            Pile::Bare(store) => store.within(most),
-            Pile::Once(store) => store.within(most),
-            Pile::Twice(store) => store.within(most),
-        }
-    }
-
     fn close(&mut self) -> Result<(), Refusal> {
         match self {
             Pile::Bare(store) => store.close(),

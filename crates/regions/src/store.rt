@@ -1,7 +1,7 @@
 // A region store: a stack of regions, bottom first, and a rule that grants or denies a list of lengths.
 ghost use mathlib.Core.Path.{_≡_};
 ghost use mathlib.Core.List.{[], _∷_};
-ghost use Rattle.regions.specs.Laws.{Lawful};
+ghost use Rattle.regions.specs.Laws.{Countable, Lawful};
 ghost use Rattle.regions.specs.Model.{Regions, Rule, lengths, within};
 ghost use Rattle.regions.specs.Model.{open-answer, open-after, put-answer, put-after, get-answer, close-answer, close-after, clear-after};
 use crate::refusal::Refusal;
@@ -14,6 +14,9 @@ pub trait RegionStore {
     ghost grants: { Self → Rule };
 
     law lawful: { (s : Self) → Lawful (grants s) };
+
+    // The regions can be counted by a `usize`, as their positions are.
+    law countable: { (s : Self) → Countable (regions s) };
 
     // Puts an empty region on top.
     fn open(&mut self) -> Result<(), Refusal>
@@ -31,9 +34,22 @@ pub trait RegionStore {
     fn get(&self, position: usize, place: usize) -> Result<u32, Refusal>
         ensures { λ r. ⌜ r ≡ get-answer (regions (now (self .entry))) position place ⌝ };
 
-    // Whether no region is longer than `most`, which a quota over the store has to know.
+    // Whether no region is longer than `most`, which a quota over the store has to know: asked of `get`, region by
+    // region. A store that knows its lengths may answer it faster.
     fn within(&self, most: usize) -> bool
-        ensures { λ r. ⌜ r ≡ within most (lengths (regions (now (self .entry)))) ⌝ };
+        ensures { λ r. ⌜ r ≡ within most (lengths (regions (now (self .entry)))) ⌝ }
+    {
+        let mut position = 0;
+        loop {
+            match self.get(position, most) {
+                Ok(_) => return false,
+                Err(refusal) => match refusal {
+                    Refusal::NoWord => position += 1,
+                    _ => return true,
+                },
+            }
+        }
+    }
 
     // Takes the top region away.
     fn close(&mut self) -> Result<(), Refusal>
