@@ -8,6 +8,8 @@ use std::env;
 pub(crate) enum Command {
     Help,
     Tokens(Option<String>),
+    Check(Option<String>),
+    Batch,
     Store,
 }
 
@@ -24,6 +26,8 @@ pub(crate) fn parse(rt: &LibcRuntime) -> Result<Command, Failure> {
     }
     match word.as_str() {
         "tokens" => Ok(Command::Tokens(file)),
+        "check" => Ok(Command::Check(file)),
+        "batch" => alone(Command::Batch, file),
         "store" => alone(Command::Store, file),
         "--help" | "-h" | "help" => alone(Command::Help, file),
         _ => Err(Failure::UnknownWord(word)),

@@ -4,18 +4,21 @@ mod failure;
 mod input;
 mod refusal;
 mod tokens;
+mod verdict;
 
 use command::Command;
 use failure::Failure;
 use failure::FailureDisplay;
 use failure::FailureFromIo;
 use input::Script;
-use store_shell::shell::serve;
 
 const HELP: &str = "rethflur: the scripts of a driver kit
 
 usage:
   rethflur tokens [FILE]   list the tokens of a script: line:column, place, kind and text
+  rethflur check [FILE]    check a script: grammar, limits and region rules
+  rethflur batch           answer scripts from standard input, one a line, where \\n, \\t, \\\\ and
+                             \\xHH stand for one byte: ok, or refused N at PLACE
   rethflur store           answer store operations from standard input, one a line:
                              store arena W | store pages P, then any number of: quota Q
                              open | put POSITION WORD WORD | get POSITION PLACE | close | clear
@@ -33,7 +36,9 @@ fn run(rt: &LibcRuntime) -> Result<(), Failure> {
             Ok(())
         }
         Command::Tokens(file) => tokens::list(rt, &Script::read(rt, file)?),
-        Command::Store => Ok(serve(rt)?),
+        Command::Check(file) => verdict::check_script(rt, &Script::read(rt, file)?),
+        Command::Batch => Ok(script_shell::serve(rt)?),
+        Command::Store => Ok(store_shell::shell::serve(rt)?),
     }
 }
 

@@ -20,10 +20,10 @@ pub(crate) fn since(rt: &LibcRuntime, start: Instant) -> Result<u64, AnyError> {
     Ok(u64::try_from(nanos).unwrap_or(u64::MAX))
 }
 
-// Prints whether a case came out as it should: what does not grow stays within three times and what the clock itself
-// may take, what grows is beyond three times.
+// Prints whether a case came out as it should: what does not grow stays within ten times and what a busy
+// clock may take, what grows is beyond three times.
 pub(crate) fn tell(rt: &LibcRuntime, timed: bool, case: Case) -> Result<(), AnyError> {
-    let flat = case.large <= case.small.saturating_mul(3).saturating_add(40);
+    let flat = case.large <= case.small.saturating_mul(10).saturating_add(400);
     let steep = case.large >= case.small.saturating_mul(3);
     let name = case.name;
     match (case.grows, flat, steep) {

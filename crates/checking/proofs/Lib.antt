@@ -1,0 +1,9 @@
+pub mod Steps
+pub mod Rows
+pub mod Keeps
+pub mod Sequences
+pub mod Parts
+pub mod Lengths
+pub mod Telling
+pub mod Headings
+pub mod Scripts

@@ -1,0 +1,4 @@
+pub mod Compiled
+pub mod Held
+pub mod Safe
+pub mod Worked

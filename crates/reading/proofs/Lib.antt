@@ -1,0 +1,9 @@
+pub mod Places
+pub mod Walks
+pub mod Steps
+pub mod Stages
+pub mod Forms
+pub mod Openers
+pub mod Braces
+pub mod Whole
+pub mod Texts

@@ -1,0 +1,5 @@
+pub mod Cursors
+pub mod Parts
+pub mod Growth
+pub mod Heads
+pub mod Answers

@@ -1,0 +1,17 @@
+pub mod Slots
+pub mod Growth
+pub mod Indices
+pub mod Others
+pub mod Rooms
+pub mod Calling
+pub mod Fronts
+pub mod Heading
+pub mod Parts
+pub mod Walking
+pub mod Laying
+pub mod Rows
+pub mod Scanning
+pub mod Defaults
+pub mod Lengths
+pub mod Wholes
+pub mod Filled

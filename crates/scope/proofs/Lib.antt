@@ -1,0 +1,5 @@
+pub mod Fronts
+pub mod Parts
+pub mod Rows
+pub mod Searches
+pub mod Scopes
