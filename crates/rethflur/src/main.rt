@@ -2,6 +2,7 @@
 mod command;
 mod failure;
 mod input;
+mod outline;
 mod refusal;
 mod tokens;
 mod verdict;
