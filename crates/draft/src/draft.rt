@@ -3,13 +3,14 @@ ghost use mathlib.Core.Path.{_≡_};
 ghost use mathlib.Core.List.{[]};
 ghost use Rattle.language.specs.Syntax.{Script};
 ghost use Rattle.draft.specs.Items.{items, items-of, text-of};
+ghost use Rattle.draft.specs.Origin.{Was-read};
 use crate::table::Table;
 
-// A draft that exists holds some script; it cannot be copied, so that it is spent once.
+// A draft that exists holds the empty script or one that was read; it cannot be copied, so that it is spent once.
 #[derive(Drop)]
 pub struct Draft {
     pub table: Table,
-    ghost held: { ∥ ((s : Script) × (items table ≡ items-of s)) ∥₁ },
+    ghost held: { ∥ ((s : Script) × (items table ≡ items-of s) × Was-read s) ∥₁ },
 }
 
 impl Draft {

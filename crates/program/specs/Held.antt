@@ -7,6 +7,7 @@ use lib.ListN.{take}
 use Rattle.std.specs.declared.result.Result.the-variants.{Ok}
 use Rattle.language.specs.Syntax.{Script}
 use Rattle.language.specs.Checking.{checking}
+use Rattle.draft.specs.Origin.{Was-read}
 use Rattle.program.specs.declared.command.Command.{Command}
 use Rattle.program.specs.declared.command.Function.{Function}
 use Rattle.program.specs.declared.code.Code.{Code}
@@ -25,4 +26,4 @@ Holds c s = (commands c ≡ compiled s) × (functions c ≡ listed s) × (c .mai
 
 -- there is no command, or the code is that of a script that has passed every question
 abbrev pub Sound : Code → Type 0
-Sound c = (c .count ≡ 0) ⊎ ((end : ℕ) × (s : Script) × (checking end s ≡ Ok s) × Holds c s)
+Sound c = (c .count ≡ 0) ⊎ ((end : ℕ) × (s : Script) × (checking end s ≡ Ok s) × Holds c s × Was-read s)

@@ -1,4 +1,5 @@
 -- A text whose tokens pass the questions 1 to 5, and the answer of reading it.
+use mathlib.Core.Logic.{inl, inr}
 use mathlib.Core.Path.{_≡_, refl, sym, ap, subst, _∙_}
 use mathlib.Core.Bool.{Bool, true, false}
 use mathlib.Core.List.{List, [], _∷_}
@@ -20,6 +21,7 @@ use Rattle.language.specs.Nesting.{most-lists, most-blocks}
 use Rattle.language.specs.Verdict.{Refused}
 use Rattle.language.specs.Syntax.{Script}
 use Rattle.language.specs.Reading.{script-of, reading, funs}
+use Rattle.draft.specs.Origin.{Was-read}
 use Rattle.draft.specs.Items.{items-of}
 use Rattle.draft.specs.declared.table.Table.{Table}
 use Rattle.lexing.specs.declared.fault.Fault.{Fault}
@@ -92,10 +94,10 @@ reading-err s x e = ap (reading-by s) e
 pub reading-ok : (s : List ℕ) (ts : List Lexeme) → tokens-of s ≡ Ok ts → reading s ≡ funs (length s) (function-of (length s) (suc (length ts))) (suc (length ts)) ts
 reading-ok s ts e = ap (reading-by s) e
 
--- a table that answers for a text holds some script
-pub holds-some : (r : Result Script Refused) → (s : Script) × (held-then r ≡ items-of s)
-holds-some (Ok s) = (s, refl)
-holds-some (Err e) = ([], refl)
+-- a table that answers for a text holds the script that the text is read as, or the empty one
+pub holds-some : (text : List ℕ) (r : Result Script Refused) → reading text ≡ r → (s : Script) × (held-then r ≡ items-of s) × Was-read s
+holds-some text (Ok s) e = (s, refl, inr (text, e))
+holds-some text (Err f) e = ([], refl, inl refl)
 
 -- the exit of a `?`
 pub broken-fill : (s : List ℕ) (t : Table) {r : Result (Unit {0}) Fault} {e : Fault} → (y : Fault) × (r ≡ Err y) × (y ≡ e) → reading s ≡ Err (refused e) → Filled s r t

@@ -9,6 +9,7 @@ use Rattle.language.specs.Syntax.{Fun, Script}
 use Rattle.language.specs.Typing.{TypedScript}
 use Rattle.language.specs.Checking.{checking}
 use Rattle.draft.specs.declared.table.Table.{Table}
+use Rattle.draft.specs.Origin.{Was-read}
 use Rattle.draft.specs.Items.{items, items-each, items-fun, items-of}
 use Rattle.program.specs.declared.command.Function.{Function}
 use Rattle.program.specs.Compiled.{compiled-from, listed-from}
@@ -30,6 +31,6 @@ Functions-walk t before after old new position = (F : Script) (fs : List Fun) �
     drop position (items t) ≡ items-each items-fun fs [] → length (laid before) ≡ before .count → before .count + length (compiled-from F (before .count) fs) ≤ 4096 → old .count + length fs ≤ 64 →
     Grows before after (compiled-from F (before .count) fs) × Lists old new (listed-from (before .count) fs)
 
--- the table holds a script that passes checking
+-- the table holds a script that was read and passes checking
 abbrev pub Holds-checked : Table → Type 0
-Holds-checked t = ∥ ((end : ℕ) × (s : Script) × (items t ≡ items-of s) × (checking end s ≡ Ok s)) ∥₁
+Holds-checked t = ∥ ((end : ℕ) × (s : Script) × (items t ≡ items-of s) × (checking end s ≡ Ok s) × Was-read s) ∥₁

@@ -7,6 +7,7 @@ use Rattle.std.proofs.shelf.Results.{err-from-errBy}
 use Rattle.language.specs.Syntax.{Script}
 use Rattle.language.specs.Checking.{checking}
 use Rattle.language.proofs.Exactly.{passes-exactly-the-typed}
+use Rattle.draft.specs.Origin.{Was-read}
 use Rattle.draft.specs.Items.{items, items-of}
 use Rattle.checker.proofs.Verdicts.{passes, carried-up, no-success, kept}
 use Rattle.checker.proofs.check.check.Needs as need
@@ -14,8 +15,8 @@ use Rattle.checker.proofs.check.check.Needs as need
 pub fill-requires : need.fill-requires
 fill-requires c κs =
     let t = c .args .draft .table in
-    ∥∥₁-map {B = (end : ℕ) × (s : Script) × (items t ≡ items-of s) × (checking end s ≡ Ok s)} (c .args .draft .held)
-    (λ p. (t .length, p .0, p .1, passes (t .length) (p .0) (c .in-Continue-verify .ensures tt (p .0) (p .1))))
+    ∥∥₁-map {B = (end : ℕ) × (s : Script) × (items t ≡ items-of s) × (checking end s ≡ Ok s) × Was-read s} (c .args .draft .held)
+    (λ p. (t .length, p .0, p .1, passes (t .length) (p .0) (c .in-Continue-verify .ensures tt (p .0) (p .1)), p .2))
 
 pub returns-in-Break-verify : need.returns-in-Break-verify
 returns-in-Break-verify c =

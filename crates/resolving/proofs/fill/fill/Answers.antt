@@ -18,6 +18,7 @@ of-requires c κs =
       p .3,
       filled (c .args .table .now) (c .new-tape .result) tape (c .new-entries .result) entries (c .seek-main .result) (p .0) (p .1) (c .fits-2 .ensures) (c .new-tape .ensures .laid) (c .new-tape .ensures .count)
           (c .new-entries .ensures .listed) (c .new-entries .ensures .count) (c .functions .ensures) (c .seek-main .ensures) (p .2) (p .3),
+      p .4,
     ))
 
 pub returns : need.returns
