@@ -1,4 +1,6 @@
 // Bytes written on one line: `\n`, `\t`, `\\` and `\xHH` stand for one byte each, and every other byte for itself.
+#![tactic(auto)]
+
 ghost use Rattle.std.specs.Prelude.{◌≡◌, Some, MatchResult};
 ghost use Rattle.escapes.specs.Escapes.{hex, hexed, escaped, decoded, lent, unescaped, Why};
 

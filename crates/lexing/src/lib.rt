@@ -1,4 +1,6 @@
 // Lexing: the bytes of a script become tokens, or the first question that fails is named with its place.
+#![tactic(auto)]
+
 mod class;
 pub mod fault;
 pub mod lex;

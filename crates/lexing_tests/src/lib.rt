@@ -1,4 +1,6 @@
 // Tests of lexing at the edges of every question.
+#![tactic(auto)]
+
 #[cfg(test)]
 mod edges;
 #[cfg(test)]

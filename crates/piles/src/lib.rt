@@ -1,3 +1,5 @@
+#![tactic(auto)]
+
 pub mod build;
 pub mod ground;
 pub mod pile;

@@ -1,4 +1,6 @@
 // Reading: a text becomes a draft, or the first question that fails is named with its place.
+#![tactic(auto)]
+
 mod blocks;
 mod cursor;
 mod functions;

@@ -1,3 +1,5 @@
+#![tactic(auto)]
+
 pub mod lengths;
 pub mod quota;
 pub mod refusal;

@@ -1,4 +1,6 @@
 // Resolving: a draft whose script has passed every question becomes code for a run.
+#![tactic(auto)]
+
 pub mod atoms;
 pub mod calls;
 pub mod fill;

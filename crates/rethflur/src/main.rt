@@ -1,4 +1,6 @@
 // The command line over the library: reads a script from a file or standard input, and shows what the library answers.
+#![tactic(auto)]
+
 mod command;
 mod failure;
 mod input;

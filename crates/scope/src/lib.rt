@@ -1,4 +1,6 @@
 // Scope: what the names of a draft stand for, and the types that their words write.
+#![tactic(auto)]
+
 pub mod command;
 pub mod name;
 pub mod search;

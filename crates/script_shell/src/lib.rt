@@ -1,4 +1,6 @@
 // Scripts from standard input, one a line with escapes, each answered by a line.
+#![tactic(auto)]
+
 use checker::check::check;
 use draft::draft::Draft;
 use escapes::{Failure, unescape};

@@ -1,4 +1,6 @@
 // Answers the scripts of standard input.
+#![tactic(auto)]
+
 use script_shell::serve;
 use std::io;
 

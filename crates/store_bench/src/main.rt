@@ -1,5 +1,7 @@
 // What the operations of a store cost, as ratios within one run. Without an argument it prints a verdict for each
 // case; with one it prints the times and ratios too.
+#![tactic(auto)]
+
 mod cases;
 mod clock;
 

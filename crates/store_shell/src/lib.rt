@@ -1,3 +1,5 @@
+#![tactic(auto)]
+
 mod command;
 pub mod operation;
 pub mod shell;

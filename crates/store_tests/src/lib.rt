@@ -1,4 +1,6 @@
 // Worked cases of the stores, through code for any store.
+#![tactic(auto)]
+
 #[cfg(test)]
 mod tests {
     use arena::arena::Arena;

@@ -1,4 +1,6 @@
 // Answers the store operations of standard input.
+#![tactic(auto)]
+
 use std::io;
 use store_shell::shell::serve;
 
