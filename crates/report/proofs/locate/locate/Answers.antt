@@ -9,7 +9,7 @@ use Rattle.report.proofs.locate.locate.Goals.{then-byte-eq10, else-byte-eq10}
 
 pub loop-byte-preserved : goal.loop-byte-preserved
 loop-byte-preserved c =
-    let front = c.split-at.result.0.now in
+    let front = c.split_at.result.0.now in
     elim c.if-byte-eq10.branch [
       | then-byte-eq10 w ↦ (
         omega (arith, w.line-is),
@@ -26,5 +26,5 @@ loop-byte-preserved c =
 pub returns : goal.returns
 returns c =
     let text = c.args.text.now in
-    onward-end _ c.loop-byte.line c.loop-byte.column c.split-at.result.0.now c.loop-byte.byte-index (omega arith) c.loop-byte.invariant.2
-    ∙ ap position_of (c.split-at.ensures.front ∙ ap (λ n. take n text) c.min.ensures ∙ take_min c.args.place text)
+    onward-end _ c.loop-byte.line c.loop-byte.column c.split_at.result.0.now c.loop-byte.byte-index (omega arith) c.loop-byte.invariant.2
+    ∙ ap position_of (c.split_at.ensures.front ∙ ap (λ n. take n text) c.min.ensures ∙ take_min c.args.place text)

@@ -8,7 +8,7 @@ returns-then-branch g c =
     let s = g.S.RegionStore in
     let x = c.args.self.now in
     let e : quota_room x.quota (s.regions x.store) c.args.position 2 ≡ Ok true =
-    sym c.room.ensures ∙ c.in-ok-room.was ∙ ap Ok c.if-branch.true
+    sym c.room.ensures ∙ c.in_ok-room.was ∙ ap Ok c.if-branch.true
     in
     let t = put_room x.quota (s.grants x.store) (s.regions x.store) c.args.position (c.args.first ∷ c.args.second ∷ []) e in
     record {
@@ -22,7 +22,7 @@ returns-else-branch g c =
     let s = g.S.RegionStore in
     let x = c.args.self.now in
     let e : quota_room x.quota (s.regions x.store) c.args.position 2 ≡ Ok false =
-    sym c.room.ensures ∙ c.in-ok-room.was ∙ ap Ok c.if-branch.false
+    sym c.room.ensures ∙ c.in_ok-room.was ∙ ap Ok c.if-branch.false
     in
     let d = put_denied x.quota (s.grants x.store) (s.regions x.store) c.args.position (c.args.first ∷ c.args.second ∷ []) e in
     record { answer = sym d.0; after = sym d.1; rule = refl }

@@ -19,9 +19,9 @@ loop-refusal-preserved g c =
     let t = told_past rs p c.args.most (sym c.in-Err.ensures ∙ ap Err c.in-NoWord.is) in
     (within_more c.args.most (lengths rs) p (omega (arith, t.0, length-lengths rs)) c.loop-refusal.invariant.0 (omega (arith, t.1, lengths-at rs p t.0)), omega (arith, t.0))
 
-pub returns-in-default : goal.returns-in-default
-returns-in-default g c =
+pub returns-in_default : goal.returns-in_default
+returns-in_default g c =
     let rs = g.Self.RegionStore.regions c.args.self.now in
     let p = c.loop-refusal.position in
-    let t = told_none rs p c.args.most _ (sym c.in-Err.ensures) c.in-default.not-NoWord in
+    let t = told_none rs p c.args.most _ (sym c.in-Err.ensures) c.in_default.not-NoWord in
     sym c.loop-refusal.invariant.0 ∙ ap (within c.args.most) (take_all p (lengths rs) (omega (arith, t.0, length-lengths rs)))
