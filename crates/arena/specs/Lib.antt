@@ -1,3 +1,2 @@
+pub mod Counted
 pub mod Layout
-pub mod Stretches
-pub mod Splits

@@ -4,7 +4,7 @@ ghost use Rattle.regions.specs.Model.{region};
 ghost use Rattle.regions.specs.Rules.{total, capacity, arena_rule};
 ghost use Rattle.arena.specs.Layout.{held};
 ghost use Rattle.regions.specs.Lawfuls.{arena_lawful};
-ghost use Rattle.arena.specs.Stretches.{arena_countable};
+ghost use Rattle.arena.specs.Counted.{arena_countable};
 
 use regions::lengths::none_above;
 use regions::refusal::Refusal;

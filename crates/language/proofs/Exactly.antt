@@ -3,5 +3,5 @@ use Rattle.language.specs.TypingLaws.{PassesExactlyTheTyped}
 use Rattle.language.proofs.Passing.{passed_is}
 use Rattle.language.proofs.WellTyped.{typed-passes}
 
-pub passes-exactly_the_typed : PassesExactlyTheTyped
-passes-exactly_the_typed end F G = (passed_is end F G, λ h. rw h.1 (typed-passes end F h.0))
+pub passes_exactly_the_typed : PassesExactlyTheTyped
+passes_exactly_the_typed end F G = (passed_is end F G, λ h. rw h.1 (typed-passes end F h.0))

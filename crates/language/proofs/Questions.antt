@@ -117,7 +117,7 @@ settled F m n o (refused {e = e} low high) h k = inr (e, refl, low, high)
 settled F m n o passed (refused {e = e} low high) k = inr (e, refl, low, high)
 settled F m n o passed passed (refused {e = e} low high) = inr (e, refl, low, high)
 
-pub answers-every_script : AnswersEveryScript
-answers-every_script end F =
+pub answers_every_script : AnswersEveryScript
+answers_every_script end F =
     let main = find_function F (codes "main") in
     settled F (check_headers [] F) (check_main end main) (check_bodies F F) (headers-ask [] F) (main-asks end main) (bodies-ask F F)

@@ -136,8 +136,8 @@ read_refused text r e = rw (e, reading)
 told : (text : List ℕ) (ts : List Lexeme) → Whole (frame (length text) ts (Unit {0}) (suc (length ts)) most_lists most_blocks (omega arith) (omega arith) (omega arith) (λ _. refl) (λ _. refl)) (fun_of (length text) (suc (length ts)) most_lists most_blocks) (suc (length ts)) (suc (length ts)) ts (script_of (length text) (suc (length ts)) most_lists most_blocks ts)
 told text ts = answers (length text) ts (Unit {0}) (suc (length ts)) most_lists most_blocks (omega arith) (omega arith) (omega arith) (λ _. refl) (λ _. refl)
 
-pub reads-spelled : ReadsSpelled
-reads-spelled text s = (λ e. by (tokens_of text) refl e, back)
+pub reads_spelled : ReadsSpelled
+reads_spelled text s = (λ e. by (tokens_of text) refl e, back)
   where
     by : (r : Result (List Lexeme) Refusal) → tokens_of text ≡ r → reading text ≡ Ok s → (ts : List Lexeme) × (tokens_of text ≡ Ok ts) × Spells ts s × Within s
     by (Ok ts) t e = let h = is_read (length text) ts (Unit {0}) (suc (length ts)) most_lists most_blocks (omega arith) (omega arith) (omega arith) (λ _. refl) (λ _. refl) s _ (told text ts) (sym (read_tokens text ts t) ∙ e) in (ts, t, h.0, h.1)

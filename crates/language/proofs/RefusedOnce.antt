@@ -134,14 +134,14 @@ module _ (text : List ℕ) where
       by (sooner t m x y) = absurd (too_far c d.before (d.entry ∷ d.next) t m x (sym (first-is y)) d.begun)
       by (later t m x y) = absurd (too_far d c.before (c.entry ∷ c.next) t m x (sym (first-is y)) c.begun)
 
-pub refused-once : RefusedOnce
-refused-once text _ _ (tokens r e) (tokens r' e') =
+pub refused_once : RefusedOnce
+refused_once text _ _ (tokens r e) (tokens r' e') =
     ap (λ (o : Refusal). record { number = question_number o.question; place = o.place }) (err_is (sym e ∙ e'))
-refused-once text _ _ (tokens r e) (cannot_go_on d) = not_both (sym d.are ∙ e)
-refused-once text _ _ (tokens r e) (too_deep d) = not_both (sym d.are ∙ e)
-refused-once text _ _ (cannot_go_on c) (tokens r e) = not_both (sym c.are ∙ e)
-refused-once text _ _ (cannot_go_on {p = p} c) (cannot_go_on {p = q} d) = ap (λ o. record { number = 6; place = o }) (stop_stop text p q c d)
-refused-once text _ _ (cannot_go_on {p = p} c) (too_deep {p = q} d) = stop_deep text p q c d
-refused-once text _ _ (too_deep c) (tokens r e) = not_both (sym c.are ∙ e)
-refused-once text _ _ (too_deep {p = p} c) (cannot_go_on {p = q} d) = stop_deep text q p d c
-refused-once text _ _ (too_deep {p = p} c) (too_deep {p = q} d) = ap (λ o. record { number = 7; place = o }) (deep_deep text p q c d)
+refused_once text _ _ (tokens r e) (cannot_go_on d) = not_both (sym d.are ∙ e)
+refused_once text _ _ (tokens r e) (too_deep d) = not_both (sym d.are ∙ e)
+refused_once text _ _ (cannot_go_on c) (tokens r e) = not_both (sym c.are ∙ e)
+refused_once text _ _ (cannot_go_on {p = p} c) (cannot_go_on {p = q} d) = ap (λ o. record { number = 6; place = o }) (stop_stop text p q c d)
+refused_once text _ _ (cannot_go_on {p = p} c) (too_deep {p = q} d) = stop_deep text p q c d
+refused_once text _ _ (too_deep c) (tokens r e) = not_both (sym c.are ∙ e)
+refused_once text _ _ (too_deep {p = p} c) (cannot_go_on {p = q} d) = stop_deep text q p d c
+refused_once text _ _ (too_deep {p = p} c) (too_deep {p = q} d) = ap (λ o. record { number = 7; place = o }) (deep_deep text p q c d)

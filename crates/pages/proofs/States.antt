@@ -2,7 +2,6 @@
 use Rattle.std.proofs.Common.{◌≡◌, ℕ, ◌+◌, ◌-◌, ◌*◌, ◌/◌, ◌%◌, ◌<◌, ◌≤◌, min, Bool, leb, List, [], ◌∷◌, ◌++◌, length, get_or, take, ap, ◌∙◌, arith}
 use Rattle.std.proofs.lemmas.List.{length_push, length-set, length-take-le, get_or-take}
 use Rattle.std.proofs.lemmas.Bool.{le-leb}
-use Rattle.regions.specs.Laws.{Countable}
 use Rattle.regions.specs.Model.{Regions, lengths, region, longer, may_open, may_put}
 use Rattle.regions.specs.Rules.{pages_of, pages_total, pages_rule}
 use Rattle.regions.proofs.Bounds.{and_true}
@@ -25,9 +24,6 @@ module _ (x : Pages) where
 
   pub count_is : length (regions-of x) ≡ x.count
   count_is = length-take-le x.count (all_of x) (omega (arith, all_length, x.few.0))
-
-  pub pages_countable : Countable (regions-of x)
-  pages_countable = omega (arith, count_is, x.few.0)
 
   pub lengths_are : lengths (regions-of x) ≡ take x.count x.lengths
   lengths_are = counts.lengths_are x.words x.next x.tops x.lengths x.free x.left x.sized.0 x.sized.1 x.sized.2 x.sized.3 x.once x.count

@@ -2,8 +2,8 @@
 ghost use Rattle.std.specs.Prelude.{◌≡◌, ℕ, ◌+◌, ◌-◌, ◌%◌, ◌<◌, ◌≤◌, List, [], ◌∷◌, ◌++◌, length, take, if◌then◌else◌, nat_eq, slice_index, slice_index_or, slice_set};
 ghost use Rattle.regions.specs.Rules.{pages_of, pages_total, pages_rule};
 ghost use Rattle.pages.specs.Chain.{walk, chains, oldest, times, times_in, at_most, holds};
+ghost use Rattle.pages.specs.Counted.{front_countable};
 ghost use Rattle.regions.specs.Lawfuls.{pages_lawful};
-ghost use Rattle.std.proofs.Common.{rules, arith};
 
 use regions::lengths::none_above;
 use regions::refusal::Refusal;
@@ -193,7 +193,7 @@ impl RegionStore for Pages {
 
     ghost lawful = { λ s. pages_lawful s.most };
 
-    ghost countable = { first_of (Prim.search rules, Prim.grind (arith, Self.row.coded.inj)) };
+    ghost countable = { λ s. front_countable s.count (holds s.words s.next s.tops s.lengths) s.few.0 };
 
     fn open(&mut self) -> Result<(), Refusal> {
         if self.count == MOST {

@@ -2,8 +2,9 @@
 use Rattle.regions.specs.Laws.{Countable, Lawful}
 use Rattle.regions.specs.Rules.{quota_rule}
 use Rattle.regions.specs.Lawfuls.{arena_lawful, pages_lawful, quota_lawful}
-use Rattle.arena.specs.Stretches.{arena_countable}
-use Rattle.pages.proofs.States.{pages_countable}
+use Rattle.arena.specs.Counted.{arena_countable}
+use Rattle.pages.specs.Chain.{holds}
+use Rattle.pages.specs.Counted.{front_countable}
 use Rattle.piles.specs.declared.ground.Ground.{Ground}
 use Rattle.piles.specs.declared.ground.Ground.TheVariants.{Stretch, Paged}
 use Rattle.piles.specs.declared.pile.Pile.{Pile}
@@ -24,7 +25,7 @@ pile_lawful (Twice q) =
 
 pub ground_countable : (s : Ground) → Countable (ground_regions s)
 ground_countable (Stretch a) = arena_countable a.lens a.memory.items a.count a.slots a.few
-ground_countable (Paged p) = pages_countable p
+ground_countable (Paged p) = front_countable p.count (holds p.words p.next p.tops p.lengths) p.few.0
 
 pub pile_countable : (s : Pile) → Countable (pile_regions s)
 pile_countable (Bare s) = ground_countable s

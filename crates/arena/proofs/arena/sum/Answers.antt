@@ -1,11 +1,11 @@
 use Rattle.std.proofs.Common.{◌+◌, ap, ◌∙◌, arith}
 use Rattle.std.proofs.lemmas.List.{take_all}
 use Rattle.regions.specs.Rules.{total}
-use Rattle.arena.specs.Splits.{total_more, total_take}
+use Rattle.arena.proofs.Splits.{total_more, total_take}
 use Rattle.arena.proofs.arena.sum.Goals as goal
 
-pub overflow-add-all : goal.overflow-add-all
-overflow-add-all c =
+pub overflow_add-all : goal.overflow_add-all
+overflow_add-all c =
     omega (arith, total_more c.args.lens.now c.loop-l.l-index c.loop-l-test.true, total_take (c.loop-l.l-index + 1) c.args.lens.now)
 
 pub loop-l-preserved : goal.loop-l-preserved

@@ -3,12 +3,12 @@ use Rattle.regions.specs.Rules.{total}
 use Rattle.arena.specs.Layout.{split}
 use Rattle.regions.specs.Model.{region}
 use Rattle.std.proofs.lemmas.List.{length-set, with_items_is}
-use Rattle.arena.specs.Splits.{region_end}
-use Rattle.arena.specs.Stretches.{used_total, words_made}
+use Rattle.arena.proofs.Splits.{region_end}
+use Rattle.arena.proofs.Stretches.{used_total, words_made}
 use Rattle.arena.proofs.arena.Arena.append.Goals as goal
 
-pub overflow-add-end : goal.overflow-add-end
-overflow-add-end c = let x = c.args.self.now in omega (arith, x.fits, region_end c.args.position x.count x.lens c.requires.here (omega arith))
+pub overflow_add-end : goal.overflow_add-end
+overflow_add-end c = let x = c.args.self.now in omega (arith, x.fits, region_end c.args.position x.count x.lens c.requires.here (omega arith))
 
 pub shift-requires : goal.shift-requires
 shift-requires c = let x = c.args.self.now in let e = region_end c.args.position x.count x.lens c.requires.here (omega arith) in (omega (arith, x.fits, e), omega (arith, x.fits, e))
@@ -16,21 +16,21 @@ shift-requires c = let x = c.args.self.now in let e = region_end c.args.position
 pub write-requires : goal.write-requires
 write-requires c = let x = c.args.self.now in omega (arith, x.fits, region_end c.args.position x.count x.lens c.requires.here (omega arith))
 
-pub overflow-add-self : goal.overflow-add-self
-overflow-add-self c = let x = c.args.self.now in omega (arith, x.fits, region_end c.args.position x.count x.lens c.requires.here (omega arith))
+pub overflow_add-self : goal.overflow_add-self
+overflow_add-self c = let x = c.args.self.now in omega (arith, x.fits, region_end c.args.position x.count x.lens c.requires.here (omega arith))
 
-pub invariant-of-self : goal.invariant-of-self
-invariant-of-self c =
+pub invariant_of-self : goal.invariant_of-self
+invariant_of-self c =
     let x = c.args.self.now in
     let few : x.count ≤ length x.lens = omega arith in
-    let l : length c.write.new.words ≡ x.memory.len = c.write.ensures.len ∙ c.shift.ensures.len ∙ c.as-mut-slice-words.ensures.len in
+    let l : length c.write.new.words ≡ x.memory.len = c.write.ensures.len ∙ c.shift.ensures.len ∙ c.as_mut_slice-words.ensures.len in
     let r = ap length (with_items_is x.memory c.write.new.words l) in
-    (simp length-set x.slots, (x.few, (omega (arith, r, l, x.memory.ok.0, used_total x.lens x.count few c.args.position (length c.args.new.now) c.requires.here, c.requires.room), tt)))
+    record { slots = simp length-set x.slots; few = x.few; fits = omega (arith, r, l, x.memory.ok.0, used_total x.lens x.count few c.args.position (length c.args.new.now) c.requires.here, c.requires.room) }
 
 pub returns : goal.returns
 returns c =
     let x = c.args.self.now in
-    let us = c.as-mut-slice-words.result.now in
+    let us = c.as_mut_slice-words.result.now in
     let ss = c.shift.new.words in
     let vs = c.write.new.words in
     let new = c.args.new.now in
@@ -39,8 +39,8 @@ returns c =
     let few : x.count ≤ length x.lens = omega arith in
     let e = c.begin.result + get_or x.lens p 0 in
     let end : e ≡ total (take p x.lens) + get_or x.lens p 0 = omega (arith, c.begin.ensures.is) in
-    let l : length vs ≡ x.memory.len = c.write.ensures.len ∙ c.shift.ensures.len ∙ c.as-mut-slice-words.ensures.len in
-    let room : total (take x.count x.lens) + n ≤ length us = omega (arith, c.requires.room, c.as-mut-slice-words.ensures.len, x.memory.ok.0) in
+    let l : length vs ≡ x.memory.len = c.write.ensures.len ∙ c.shift.ensures.len ∙ c.as_mut_slice-words.ensures.len in
+    let room : total (take x.count x.lens) + n ≤ length us = omega (arith, c.requires.room, c.as_mut_slice-words.ensures.len, x.memory.ok.0) in
     let moved : (k : ℕ) → e ≤ k → k < total (take x.count x.lens) → get_or ss (k + n) 0 ≡ get_or us k 0 =
     λ k g h. c.shift.ensures.moved k g (omega (arith, c.begin-used.ensures.is))
     in
@@ -51,5 +51,5 @@ returns c =
       old = refl;
       count = refl;
       len = refl;
-      regions = ap (λ ws. split (take x.count (set x.lens p (get_or x.lens p 0 + n))) ws) r ∙ subst P c.as-mut-slice-words.ensures.value made;
+      regions = ap (λ ws. split (take x.count (set x.lens p (get_or x.lens p 0 + n))) ws) r ∙ subst P c.as_mut_slice-words.ensures.value made;
     }

@@ -1,6 +1,6 @@
 use Rattle.std.proofs.Common.{ap, ◌∙◌, arith}
 use Rattle.regions.specs.Rules.{total}
-use Rattle.arena.specs.Splits.{total_below}
+use Rattle.arena.proofs.Splits.{total_below}
 use Rattle.regions.proofs.Tables.{front_is}
 use Rattle.arena.proofs.arena.Arena.begin.Goals as goal
 

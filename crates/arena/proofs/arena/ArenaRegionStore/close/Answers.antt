@@ -1,7 +1,7 @@
 use Rattle.std.proofs.Common.{◌-◌, ◌≤◌, length, take, sym, refl, ap, ◌∙◌, arith}
 use Rattle.arena.specs.Layout.{split}
-use Rattle.arena.specs.Splits.{total_below}
-use Rattle.arena.specs.Stretches.{close_some, used_length, used_below}
+use Rattle.arena.proofs.Splits.{total_below}
+use Rattle.arena.proofs.Stretches.{close_some, used_length, used_below}
 use Rattle.arena.proofs.arena.ArenaRegionStore.close.Goals as goal
 
 pub returns : goal.returns
@@ -16,7 +16,7 @@ returns c =
       rule = refl;
     }
 
-pub invariant-of-self : goal.invariant-of-self
-invariant-of-self c =
+pub invariant_of-self : goal.invariant_of-self
+invariant_of-self c =
     let x = c.args.self.now in
-    (x.slots, (omega arith, (omega (arith, x.fits, total_below (x.count - 1) x.count x.lens (omega arith)), tt)))
+    record { slots = x.slots; few = omega arith; fits = omega (arith, x.fits, total_below (x.count - 1) x.count x.lens (omega arith)) }

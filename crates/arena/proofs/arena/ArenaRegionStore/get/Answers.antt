@@ -1,8 +1,8 @@
 use Rattle.std.proofs.Common.{◌+◌, ◌<◌, ◌≤◌, length, get_or, take, Ok, sym, ap, ◌∙◌, arith}
 use Rattle.std.proofs.lemmas.List.{get_or_read}
 use Rattle.regions.specs.Rules.{total}
-use Rattle.arena.specs.Splits.{region_end}
-use Rattle.arena.specs.Stretches.{get_none, get_past, get_word, used_length, used_at, used_below}
+use Rattle.arena.proofs.Splits.{region_end}
+use Rattle.arena.proofs.Stretches.{get_none, get_past, get_word, used_length, used_at, used_below}
 use Rattle.arena.proofs.arena.ArenaRegionStore.get.Goals as goal
 
 pub returns-then-position-self : goal.returns-then-position-self
@@ -20,8 +20,8 @@ returns-then-place-self c =
     let v = used_at x.lens x.count few c.args.position c.if-position-self.false in
     sym (get_past (take x.count x.lens) x.memory.items x.memory.len x.fits x.memory.ok.0 c.args.position c.args.place (omega (arith, n)) (omega (arith, v)))
 
-pub overflow-add-begin : goal.overflow-add-begin
-overflow-add-begin c = let x = c.args.self.now in omega (arith, x.fits, region_end c.args.position x.count x.lens (omega arith) (omega arith))
+pub overflow_add-begin : goal.overflow_add-begin
+overflow_add-begin c = let x = c.args.self.now in omega (arith, x.fits, region_end c.args.position x.count x.lens (omega arith) (omega arith))
 
 pub index-requires : goal.index-requires
 index-requires c =

@@ -2,8 +2,8 @@ use Rattle.std.proofs.Common.{◌<◌, ◌≤◌, length, take, sym, refl, ap, �
 use Rattle.std.proofs.lemmas.List.{length-set, take_more_set}
 use Rattle.regions.specs.Rules.{total}
 use Rattle.arena.specs.Layout.{split}
-use Rattle.arena.specs.Splits.{total_push}
-use Rattle.arena.specs.Stretches.{open_full, open_room, used_length}
+use Rattle.arena.proofs.Splits.{total_push}
+use Rattle.arena.proofs.Stretches.{open_full, open_room, used_length}
 use Rattle.arena.proofs.arena.ArenaRegionStore.open.Goals as goal
 
 pub returns-then-self-eq-MOST : goal.returns-then-self-eq-MOST
@@ -27,8 +27,8 @@ returns c =
       rule = refl;
     }
 
-pub invariant-of-self : goal.invariant-of-self
-invariant-of-self c =
+pub invariant_of-self : goal.invariant_of-self
+invariant_of-self c =
     let x = c.args.self.now in
     let l : x.count < length x.lens = omega arith in
-    (omega (arith, length-set x.lens x.count 0), (omega arith, (omega (arith, x.fits, ap total (take_more_set x.lens x.count 0 l), total_push (take x.count x.lens)), tt)))
+    record { slots = omega (arith, length-set x.lens x.count 0); few = omega arith; fits = omega (arith, x.fits, ap total (take_more_set x.lens x.count 0 l), total_push (take x.count x.lens)) }

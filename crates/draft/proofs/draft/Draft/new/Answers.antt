@@ -2,5 +2,5 @@
 use Rattle.std.proofs.Common.{[], refl, inl}
 use Rattle.draft.proofs.draft.Draft.new.Goals as goal
 
-pub invariant-of-result : goal.invariant-of-result
-invariant-of-result c = (∣ ([], c.new.ensures.items, inl refl) ∣₁, tt)
+pub invariant_of-result : goal.invariant_of-result
+invariant_of-result c = record { held = ∣ ([], c.new.ensures.items, inl refl) ∣₁ }

@@ -7,17 +7,17 @@ use Rattle.pages.proofs.Ends.{Ends, freed_ends}
 use Rattle.pages.proofs.States.{bottom_is, bottom_below}
 use Rattle.pages.proofs.pages.Pages.empty.Goals as goal
 
-pub offset-bounds-self-bottom : goal.offset-bounds-self-bottom
-offset-bounds-self-bottom c = let x = c.args.self.now in omega (arith, x.sized.1, bottom_below x c.args.position c.requires.here c.if-length-gt0.true)
+pub offset_bounds-self-bottom : goal.offset_bounds-self-bottom
+offset_bounds-self-bottom c = let x = c.args.self.now in omega (arith, x.sized.1, bottom_below x c.args.position c.requires.here c.if-length-gt0.true)
 
 pub bounds-self-bottom : goal.bounds-self-bottom
 bounds-self-bottom c = let x = c.args.self.now in omega (arith, x.sized.1, bottom_below x c.args.position c.requires.here c.if-length-gt0.true)
 
-pub overflow-add-self : goal.overflow-add-self
-overflow-add-self c = let x = c.args.self.now in omega (arith, x.sum, x.few.1, pages_at x.lengths c.args.position, c.pages-for.ensures)
+pub overflow_add-self : goal.overflow_add-self
+overflow_add-self c = let x = c.args.self.now in omega (arith, x.sum, x.few.1, pages_at x.lengths c.args.position, c.pages_for.ensures)
 
-pub invariant-of-self : goal.invariant-of-self
-invariant-of-self c =
+pub invariant_of-self : goal.invariant_of-self
+invariant_of-self c =
     let x = c.args.self.now in
     let p = c.args.position in
     let b = get_or x.bottoms p 0 in
@@ -28,22 +28,7 @@ invariant-of-self c =
     let next = set x.next b x.free in
     let O : ℕ → Type 0 = λ n. Once (chains next x.tops (set x.lengths p 0)) (walk next (get_or x.tops p 0) (n + x.left)) in
     let E : List (List ℕ) → Type 0 = λ ds. Ends ds x.bottoms in
-    let f = freed x.words x.next x.tops x.lengths x.free x.left p b x.sized.1 x.sized.2 x.sized.3 x.once c.requires.here some (bottom_is x p c.requires.here some) (bottom_below x p c.requires.here some) in (
-      (x.sized.0, length-set x.next _ _ ∙ x.sized.1, x.sized.2, length-set x.lengths p 0 ∙ x.sized.3),
-      (
-        x.few,
-        (
-          (λ i g. zeroed x.lengths p i here (x.rest i g)),
-          (
-            omega (arith, x.sum, pages_set x.lengths p 0 here, c.pages-for.ensures),
-            (
-              subst O (sym c.pages-for.ensures) (freed_once x.words x.next x.tops x.lengths x.free x.left p b x.sized.1 x.sized.2 x.sized.3 x.once c.requires.here some (bottom_is x p c.requires.here some) (bottom_below x p c.requires.here some)),
-              ((x.ends.0, subst E (sym f) (freed_ends cs x.bottoms p inside x.ends.1)), tt),
-            ),
-          ),
-        ),
-      ),
-    )
+    let f = freed x.words x.next x.tops x.lengths x.free x.left p b x.sized.1 x.sized.2 x.sized.3 x.once c.requires.here some (bottom_is x p c.requires.here some) (bottom_below x p c.requires.here some) in record { sized = (x.sized.0, length-set x.next _ _ ∙ x.sized.1, x.sized.2, length-set x.lengths p 0 ∙ x.sized.3); few = x.few; rest = (λ i g. zeroed x.lengths p i here (x.rest i g)); sum = omega (arith, x.sum, pages_set x.lengths p 0 here, c.pages_for.ensures); once = subst O (sym c.pages_for.ensures) (freed_once x.words x.next x.tops x.lengths x.free x.left p b x.sized.1 x.sized.2 x.sized.3 x.once c.requires.here some (bottom_is x p c.requires.here some) (bottom_below x p c.requires.here some)); ends = (x.ends.0, subst E (sym f) (freed_ends cs x.bottoms p inside x.ends.1)) }
 
 pub returns-then-length-gt0 : goal.returns-then-length-gt0
 returns-then-length-gt0 c =

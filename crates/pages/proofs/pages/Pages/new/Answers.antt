@@ -17,18 +17,6 @@ loop-i-preserved c =
           (cases_lt k i)),
     )
 
-pub invariant-of-result : goal.invariant-of-result
-invariant-of-result c =
-    let le : c.min-most.result ≤ 256 = omega (arith, c.min-most.ensures) in (
-      (refl, c.loop-i.invariant.0, refl, refl),
-      (
-        (omega arith, le),
-        (
-          (λ i _. zeros 64 i),
-          (
-            omega arith,
-            ((λ z. omega (arith, free_once c.loop-i.next (λ k h. c.loop-i.invariant.1 k (omega arith)) z c.min-most.result le)), ((refl, empty-ends c.loop-i.next (replicate 64 0) 64), tt)),
-          ),
-        ),
-      ),
-    )
+pub invariant_of-result : goal.invariant_of-result
+invariant_of-result c =
+    let le : c.min-most.result ≤ 256 = omega (arith, c.min-most.ensures) in record { sized = (refl, c.loop-i.invariant.0, refl, refl); few = (omega arith, le); rest = (λ i _. zeros 64 i); sum = omega arith; once = (λ z. omega (arith, free_once c.loop-i.next (λ k h. c.loop-i.invariant.1 k (omega arith)) z c.min-most.result le)); ends = (refl, empty-ends c.loop-i.next (replicate 64 0) 64) }

@@ -7,8 +7,8 @@ use Rattle.pages.proofs.Words.{push_new}
 use Rattle.pages.proofs.Ends.{Ends, taken_ends}
 use Rattle.pages.proofs.pages.Pages.push_new.Goals as goal
 
-pub invariant-of-self : goal.invariant-of-self
-invariant-of-self c =
+pub invariant_of-self : goal.invariant_of-self
+invariant_of-self c =
     let x = c.args.self.now in
     let p = c.args.position in
     let l = get_or x.lengths p 0 in
@@ -21,19 +21,7 @@ invariant-of-self c =
     let tk = taken x.next x.tops x.lengths p x.free x.left (l + 1) x.once there here (x.sized.2 ∙ sym x.sized.3) c.requires.some x.sized.1 more in
     let E : List (List ℕ) → Type 0 = λ ds. Ends ds (set x.bottoms p (cond (eqb l 0) x.free (get_or x.bottoms p 0))) in
     let F : ℕ → Type 0 = λ v. Ends (chains (set x.next x.free (get_or x.tops p 0)) (set x.tops p x.free) (set x.lengths p (l + 1))) (set x.bottoms p v) in
-    let ends : F c.bottom-after.result = subst F (sym c.bottom-after.ensures) (subst E (sym tk) (taken_ends cs x.bottoms p (omega (arith, many, here)) x.ends.1 x.free l (omega (arith, x.ends.0, x.few.0, c.requires.here)) len)) in (
-      (length-set x.words _ _ ∙ x.sized.0, length-set x.next _ _ ∙ x.sized.1, length-set x.tops _ _ ∙ x.sized.2, length-set x.lengths p (l + 1) ∙ x.sized.3),
-      (
-        x.few,
-        (
-          (λ i g. get_or-set_other x.lengths p i (l + 1) 0 (λ e. omega (arith, c.requires.here)) ∙ x.rest i g),
-          (
-            omega (arith, x.sum, pages_set x.lengths p (l + 1) here, c.requires.full, c.requires.some),
-            (taken_once x.next x.tops x.lengths p x.free x.left (l + 1) x.once there here (x.sized.2 ∙ sym x.sized.3) c.requires.some x.sized.1 more, ((length-set x.bottoms p _ ∙ x.ends.0, ends), tt)),
-          ),
-        ),
-      ),
-    )
+    let ends : F c.bottom_after.result = subst F (sym c.bottom_after.ensures) (subst E (sym tk) (taken_ends cs x.bottoms p (omega (arith, many, here)) x.ends.1 x.free l (omega (arith, x.ends.0, x.few.0, c.requires.here)) len)) in record { sized = (length-set x.words _ _ ∙ x.sized.0, length-set x.next _ _ ∙ x.sized.1, length-set x.tops _ _ ∙ x.sized.2, length-set x.lengths p (l + 1) ∙ x.sized.3); few = x.few; rest = (λ i g. get_or-set_other x.lengths p i (l + 1) 0 (λ e. omega (arith, c.requires.here)) ∙ x.rest i g); sum = omega (arith, x.sum, pages_set x.lengths p (l + 1) here, c.requires.full, c.requires.some); once = taken_once x.next x.tops x.lengths p x.free x.left (l + 1) x.once there here (x.sized.2 ∙ sym x.sized.3) c.requires.some x.sized.1 more; ends = (length-set x.bottoms p _ ∙ x.ends.0, ends) }
 
 pub returns : goal.returns
 returns c =
@@ -45,26 +33,26 @@ returns c =
       most = refl;
     }
 
-pub offset-bounds-self-page : goal.offset-bounds-self-page
-offset-bounds-self-page c = let x = c.args.self.now in omega (arith, x.sized.0, x.sized.1, free_below (chains x.next x.tops x.lengths) x.next x.free x.left x.once c.requires.some)
+pub offset_bounds-self-page : goal.offset_bounds-self-page
+offset_bounds-self-page c = let x = c.args.self.now in omega (arith, x.sized.0, x.sized.1, free_below (chains x.next x.tops x.lengths) x.next x.free x.left x.once c.requires.some)
 
 pub bounds-self-page : goal.bounds-self-page
 bounds-self-page c = let x = c.args.self.now in omega (arith, x.sized.0, x.sized.1, free_below (chains x.next x.tops x.lengths) x.next x.free x.left x.once c.requires.some)
 
-pub offset-bounds-self-page-2 : goal.offset-bounds-self-page-2
-offset-bounds-self-page-2 c = let x = c.args.self.now in omega (arith, x.sized.0, x.sized.1, free_below (chains x.next x.tops x.lengths) x.next x.free x.left x.once c.requires.some)
+pub offset_bounds-self-page-2 : goal.offset_bounds-self-page-2
+offset_bounds-self-page-2 c = let x = c.args.self.now in omega (arith, x.sized.0, x.sized.1, free_below (chains x.next x.tops x.lengths) x.next x.free x.left x.once c.requires.some)
 
 pub bounds-self-page-2 : goal.bounds-self-page-2
 bounds-self-page-2 c = let x = c.args.self.now in omega (arith, x.sized.0, x.sized.1, free_below (chains x.next x.tops x.lengths) x.next x.free x.left x.once c.requires.some)
 
-pub overflow-mul-self : goal.overflow-mul-self
-overflow-mul-self c = let x = c.args.self.now in omega (arith, x.sized.0, x.sized.1, free_below (chains x.next x.tops x.lengths) x.next x.free x.left x.once c.requires.some)
+pub overflow_mul-self : goal.overflow_mul-self
+overflow_mul-self c = let x = c.args.self.now in omega (arith, x.sized.0, x.sized.1, free_below (chains x.next x.tops x.lengths) x.next x.free x.left x.once c.requires.some)
 
-pub overflow-add-self : goal.overflow-add-self
-overflow-add-self c = let x = c.args.self.now in omega (arith, x.sized.0, x.sized.1, free_below (chains x.next x.tops x.lengths) x.next x.free x.left x.once c.requires.some)
+pub overflow_add-self : goal.overflow_add-self
+overflow_add-self c = let x = c.args.self.now in omega (arith, x.sized.0, x.sized.1, free_below (chains x.next x.tops x.lengths) x.next x.free x.left x.once c.requires.some)
 
-pub offset-bounds-self-page-3 : goal.offset-bounds-self-page-3
-offset-bounds-self-page-3 c = let x = c.args.self.now in omega (arith, x.sized.0, x.sized.1, free_below (chains x.next x.tops x.lengths) x.next x.free x.left x.once c.requires.some)
+pub offset_bounds-self-page-3 : goal.offset_bounds-self-page-3
+offset_bounds-self-page-3 c = let x = c.args.self.now in omega (arith, x.sized.0, x.sized.1, free_below (chains x.next x.tops x.lengths) x.next x.free x.left x.once c.requires.some)
 
 pub bounds-self-page-3 : goal.bounds-self-page-3
 bounds-self-page-3 c = let x = c.args.self.now in omega (arith, x.sized.0, x.sized.1, free_below (chains x.next x.tops x.lengths) x.next x.free x.left x.once c.requires.some)

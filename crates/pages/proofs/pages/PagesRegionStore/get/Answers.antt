@@ -20,6 +20,6 @@ returns c =
     let p = c.args.position in
     let i = c.args.place in
     let h = c.if-position-self.false in
-    ap (λ q. Ok (get_or x.words (16 * q + i % 16) 0)) c.page-at-page.ensures.is
+    ap (λ q. Ok (get_or x.words (16 * q + i % 16) 0)) c.page_at-page.ensures.is
     ∙ ap Ok (sym (word_is x p h i c.if-place-length.false))
     ∙ sym (get_word (regions-of x) p i (omega (arith, count_is x)) (omega (arith, length_is x p h)))

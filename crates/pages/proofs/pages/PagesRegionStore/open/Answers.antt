@@ -12,10 +12,10 @@ returns-then-self-eq-MOST c =
     let t = open_denied (pages_rule x.most) (regions-of x) (may_open_is x ∙ lt-leb (x.count + 1) 64 (omega arith)) in
     record { answer = sym t.0; after = sym t.1; rule = refl }
 
-pub invariant-of-self : goal.invariant-of-self
-invariant-of-self c =
+pub invariant_of-self : goal.invariant_of-self
+invariant_of-self c =
     let x = c.args.self.now in
-    (x.sized, ((omega (arith, x.few.0), x.few.1), ((λ i g. x.rest i (omega arith)), (x.sum, (x.once, (x.ends, tt))))))
+    record { sized = x.sized; few = (omega (arith, x.few.0), x.few.1); rest = (λ i g. x.rest i (omega arith)); sum = x.sum; once = x.once; ends = x.ends }
 
 pub returns : goal.returns
 returns c =

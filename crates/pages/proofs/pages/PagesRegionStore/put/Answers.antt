@@ -12,16 +12,16 @@ returns-then-position-self c =
     let t = put_none (pages_rule x.most) (regions-of x) c.args.position (c.args.first ∷ c.args.second ∷ []) (omega (arith, count_is x)) in
     record { answer = sym t.0; after = sym t.1; rule = refl }
 
-pub overflow-mul-self : goal.overflow-mul-self
-overflow-mul-self c = let x = c.args.self.now in omega (arith, fits x c.args.position c.if-position-self.false, c.pages-for.ensures)
+pub overflow_mul-self : goal.overflow_mul-self
+overflow_mul-self c = let x = c.args.self.now in omega (arith, fits x c.args.position c.if-position-self.false, c.pages_for.ensures)
 
-pub returns-then-self-pages-for-lt2 : goal.returns-then-self-pages-for-lt2
-returns-then-self-pages-for-lt2 c =
+pub returns-then-self-pages_for-lt2 : goal.returns-then-self-pages_for-lt2
+returns-then-self-pages_for-lt2 c =
     let x = c.args.self.now in
     let p = c.args.position in
     let new = c.args.first ∷ c.args.second ∷ [] in
     let h = c.if-position-self.false in
-    let no = may_put_is x p h new false (lt-leb (pages_of (get_or x.lengths p 0 + 2)) (pages_of (get_or x.lengths p 0) + x.left) (omega (arith, c.pages-for.ensures, c.if-self-pages-for-lt2.true))) in
+    let no = may_put_is x p h new false (lt-leb (pages_of (get_or x.lengths p 0 + 2)) (pages_of (get_or x.lengths p 0) + x.left) (omega (arith, c.pages_for.ensures, c.if-self-pages_for-lt2.true))) in
     let t = put_denied (pages_rule x.most) (regions-of x) p new (omega (arith, count_is x)) no in
     record { answer = sym t.0; after = sym t.1; rule = refl }
 
@@ -31,7 +31,7 @@ returns c =
     let p = c.args.position in
     let new = c.args.first ∷ c.args.second ∷ [] in
     let h = c.if-position-self.false in
-    let yes = may_put_is x p h new true (le-leb (pages_of (get_or x.lengths p 0 + 2)) (pages_of (get_or x.lengths p 0) + x.left) (omega (arith, c.pages-for.ensures, c.if-self-pages-for-lt2.false))) in
+    let yes = may_put_is x p h new true (le-leb (pages_of (get_or x.lengths p 0 + 2)) (pages_of (get_or x.lengths p 0) + x.left) (omega (arith, c.pages_for.ensures, c.if-self-pages_for-lt2.false))) in
     let t = put_granted (pages_rule x.most) (regions-of x) p new (omega (arith, count_is x)) yes in
     record {
       answer = ap Ok (sym (length_is x p h)) ∙ sym t.0;

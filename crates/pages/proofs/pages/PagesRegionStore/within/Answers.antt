@@ -7,4 +7,4 @@ use Rattle.pages.proofs.pages.PagesRegionStore.within.Goals as goal
 pub returns : goal.returns
 returns c =
     let x = c.args.self.now in
-    c.none-above.ensures ∙ ap (within c.args.most) (front_is x.count x.lengths ∙ sym (lengths_are x))
+    c.none_above.ensures ∙ ap (within c.args.most) (front_is x.count x.lengths ∙ sym (lengths_are x))

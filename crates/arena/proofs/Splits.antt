@@ -4,6 +4,7 @@ use Rattle.std.proofs.Common.{sym, ap, ◌∙◌, arith, ⊎_elim}
 use Rattle.std.proofs.lemmas.List.{take_more, length-take, length-drop, length-append, take-append-le, append_assoc, drop-append-le, take_at, drop_at, take-take, drop-take, drop-drop, length-take-le, ext_get_or, get_or-take, get_or-drop, get_or_append_left, get_or-append_right}
 use Rattle.std.proofs.lemmas.Bool.{cases_lt}
 use Rattle.regions.specs.Rules.{total}
+use Rattle.arena.specs.Counted.{length_split}
 use Rattle.arena.specs.Layout.{split}
 use Rattle.regions.specs.Model.{lengths, longer}
 
@@ -27,10 +28,6 @@ total_set (l ∷ ls) (suc i) n h = omega (arith, total_set ls i n (omega arith))
 
 pub total_push : (ls : List ℕ) → total (ls ++ 0 ∷ []) ≡ total ls
 total_push ls = omega (arith, total_append ls (0 ∷ []))
-
-pub length_split : (ls ws : List ℕ) → length (split ls ws) ≡ length ls
-length_split [] ws = refl
-length_split (l ∷ ls) ws = ap suc (length_split ls (drop l ws))
 
 pub lengths_split : (ls ws : List ℕ) → total ls ≤ length ws → lengths (split ls ws) ≡ ls
 lengths_split [] ws h = refl

@@ -10,8 +10,9 @@ use Rattle.regions.specs.Rules.{total, capacity, arena_rule}
 use Rattle.regions.proofs.Bounds.{and_true, lengths-at}
 use Rattle.regions.proofs.Answered as cases
 use Rattle.regions.proofs.Tables.{take-set_in}
+use Rattle.arena.specs.Counted.{length_split}
 use Rattle.arena.specs.Layout.{split}
-use Rattle.arena.specs.Splits.{lengths_split, length_split, split_push, split_take, split_at, split_same, split_put, total_push, total_set, total_take, total_more, inserted_words}
+use Rattle.arena.proofs.Splits.{lengths_split, split_push, split_take, split_at, split_same, split_put, total_push, total_set, total_take, total_more, inserted_words}
 
 -- how long one region is
 pub region_length : (ls ws : List ℕ) (p : ℕ) → p < length ls → total ls ≤ length ws → length (region (split ls ws) p) ≡ slice_index ls p
@@ -107,10 +108,6 @@ module _ (table : List ℕ) (count : ℕ) (few : count ≤ length table) where
 
   pub used_total : (p n : ℕ) → p < count → total (take count (slice_set table p (slice_index table p + n))) ≡ total (take count table) + n
   used_total p n h = ap total (used_longer p n h) ∙ total_set (take count table) p n (omega (arith, used_length))
-
--- a table of 64 lengths has few enough regions to count
-pub arena_countable : (table ws : List ℕ) (count : ℕ) → length table ≡ 64 → count ≤ 64 → Countable (split (take count table) ws)
-arena_countable table ws count slots few = omega (arith, length_split (take count table) ws, used_length table count (omega arith))
 
 -- words written at e into words that were moved up from e
 module _ (table ws ss vs new : List ℕ) (count p e : ℕ) (few : count ≤ length table) (here : p < count) (room : total (take count table) + length new ≤ length ws) (end : e ≡ total (take p table) + slice_index table p) (same : length ss ≡ length ws) (low : (k : ℕ) → k < e → slice_index ss k ≡ slice_index ws k) (high : (k : ℕ) → e ≤ k → k < total (take count table) → slice_index ss (k + length new) ≡ slice_index ws k) (same' : length vs ≡ length ss) (low' : (k : ℕ) → k < e → slice_index vs k ≡ slice_index ss k) (mid' : (k : ℕ) → k < length new → slice_index vs (e + k) ≡ slice_index new k) (high' : (k : ℕ) → e + length new ≤ k → slice_index vs k ≡ slice_index ss k) where
