@@ -21,7 +21,7 @@ pub trait Named {
 
 // The index of the first entry of that name, or none.
 pub fn first<E: Named>(table: &Table, entries: &[E], sought: &[u8]) -> Option<usize>
-    ensures { MatchOption result (find (λ e. bytes (text_of table.now) (key e)) sought.now entries.now ≡ none) (λ i. First (λ e. bytes (text_of table.now) (key e)) sought.now entries.now i) }
+    ensures { MatchOption result (find (λ e. bytes (text_of table.now) (E.key e)) sought.now entries.now ≡ none) (λ i. First (λ e. bytes (text_of table.now) (E.key e)) sought.now entries.now i) }
 {
     for (i, entry) in entries.iter().enumerate() {
         if same(bytes_of(table, entry.name()), sought) {

@@ -54,24 +54,27 @@ fn word(text: Option<&&str>) -> Result<u32, Fault> {
     }
 }
 
+// What to put, by the words behind `put`.
+fn put(words: &[&str]) -> Result<Operation, Fault> {
+    let position = number(words.get(1))?;
+    let first = word(words.get(2))?;
+    Ok(Operation::Put(position, first, word(words.get(3))?))
+}
+
+// What to get, by the words behind `get`.
+fn get(words: &[&str]) -> Result<Operation, Fault> {
+    let position = number(words.get(1))?;
+    Ok(Operation::Get(position, number(words.get(2))?))
+}
+
 // The operation that a command's name and the words behind it say.
 fn operation(words: &[&str]) -> Result<Operation, Fault> {
     let (operation, takes) = match words.first() {
         Some(&"open") => (Operation::Open, 1),
         Some(&"close") => (Operation::Close, 1),
         Some(&"clear") => (Operation::Clear, 1),
-        Some(&"put") => (
-            Operation::Put(
-                number(words.get(1))?,
-                word(words.get(2))?,
-                word(words.get(3))?,
-            ),
-            4,
-        ),
-        Some(&"get") => (
-            Operation::Get(number(words.get(1))?, number(words.get(2))?),
-            3,
-        ),
+        Some(&"put") => (put(words)?, 4),
+        Some(&"get") => (get(words)?, 3),
         _ => return Err(Fault::NoCommand),
     };
     if words.len() > takes {

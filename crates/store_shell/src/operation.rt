@@ -29,9 +29,9 @@ pub enum Answer {
 
 // Performs an operation on any store.
 pub fn perform<S: RegionStore>(store: &mut S, operation: Operation) -> Result<Answer, Refusal>
-    ensures answer { result ≡ answered (grants store.old) (regions store.old) operation }
-    ensures after { regions store.new ≡ afterwards (grants store.old) (regions store.old) operation }
-    ensures rule { grants store.new ≡ grants store.old }
+    ensures answer { result ≡ answered (S.grants store.old) (S.regions store.old) operation }
+    ensures after { S.regions store.new ≡ afterwards (S.grants store.old) (S.regions store.old) operation }
+    ensures rule { S.grants store.new ≡ S.grants store.old }
 {
     match operation {
         Operation::Open => {

@@ -4,7 +4,7 @@ use Rattle.scope.specs.Words.{word}
 use Rattle.scope.proofs.Rows.{row-end, no_word}
 use Rattle.scope.proofs.command.word_at.Goals as goal
 
-pub returns-in-default : goal.returns-in-default
-returns-in-default c =
+pub returns-in_default : goal.returns-in_default
+returns-in_default c =
     let text = text_of c.args.table.now in
-    row-end word (item text c.in-Some.command) _ _ c.in-Some.ensures.1 (no_word text c.in-Some.command c.in-default.not-List c.in-default.not-Nil)
+    row-end word (item text c.in-Some.command) _ _ c.in-Some.ensures.1 (no_word text c.in-Some.command c.in_default.not-List c.in_default.not-Nil)

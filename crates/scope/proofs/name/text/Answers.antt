@@ -7,4 +7,4 @@ pub returns : goal.returns
 returns c =
     let t = c.args.table.now in
     let e : 16384 ≡ length t.text = omega arith in
-    c.split-at.ensures.front ∙ ap (λ n. take n t.text) (c.min.ensures ∙ ap (λ n. min t.length n) e) ∙ take_min t.length t.text
+    c.split_at.ensures.front ∙ ap (λ n. take n t.text) (c.min.ensures ∙ ap (λ n. min t.length n) e) ∙ take_min t.length t.text

@@ -13,7 +13,7 @@ returns-then-same g c =
     let es = c.args.entries.now in
     let i = c.loop-i.i in
     let e = c.index-entries-i.result in
-    let t = ap (λ b. same_bytes b c.args.sought.now) (sym (c.bytes-of.ensures ∙ ap (bytes text) c.name.ensures)) ∙ sym c.same.ensures ∙ c.if-same.true in
+    let t = ap (λ b. same_bytes b c.args.sought.now) (sym (c.bytes_of.ensures ∙ ap (bytes text) c.name.ensures)) ∙ sym c.same.ensures ∙ c.if-same.true in
     (omega arith, λ d. hit (λ x. bytes text (g.E.Named.key x)) c.args.sought.now es i e d (omega arith) (get_or_read es i e (omega arith) c.index-entries-i.is d) t c.loop-i.invariant)
 
 pub loop-i-preserved : goal.loop-i-preserved
@@ -22,7 +22,7 @@ loop-i-preserved g c =
     let es = c.args.entries.now in
     let i = c.loop-i.i in
     let e = c.index-entries-i.result in
-    let t = ap (λ b. same_bytes b c.args.sought.now) (sym (c.bytes-of.ensures ∙ ap (bytes text) c.name.ensures)) ∙ sym c.same.ensures ∙ c.if-same.false in
+    let t = ap (λ b. same_bytes b c.args.sought.now) (sym (c.bytes_of.ensures ∙ ap (bytes text) c.name.ensures)) ∙ sym c.same.ensures ∙ c.if-same.false in
     passed (λ x. bytes text (g.E.Named.key x)) c.args.sought.now es i e e (omega arith) c.index-entries-i.is t c.loop-i.invariant
 
 pub returns : goal.returns

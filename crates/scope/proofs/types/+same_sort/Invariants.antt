@@ -3,5 +3,5 @@ use Rattle.std.proofs.Common.{◌-◌}
 use Rattle.scope.specs.Words.{left}
 use Rattle.scope.proofs.types.+same_sort.Given as goal
 
-abbrev pub decreases-same-sort : goal.decreases-same-sort
-decreases-same-sort l = left l.left
+abbrev pub decreases-same_sort : goal.decreases-same_sort
+decreases-same_sort l = left l.left

@@ -15,7 +15,7 @@ returns-in-Some c =
     let n = c.args.name in
     let text = text_of t in
     let Γ = scope_of t s in
-    known_some Γ (ident text n) _ (find-map (λ x. x) (bytes text) (bytes text n) (take s.counts.regions s.regions) ∙ ap (λ es. option_map (bytes text) (find (bytes text) (bytes text n) es)) (sym c.regions-in.ensures.is) ∙ ap (λ b. option_map (bytes text) (find (bytes text) b c.regions-in.result.now)) (sym c.bytes-of.ensures) ∙ ap (option_map (bytes text)) (c.in-Some.ensures.1 n))
+    known_some Γ (ident text n) _ (find-map (λ x. x) (bytes text) (bytes text n) (take s.counts.regions s.regions) ∙ ap (λ es. option_map (bytes text) (find (bytes text) (bytes text n) es)) (sym c.regions_in.ensures.is) ∙ ap (λ b. option_map (bytes text) (find (bytes text) b c.regions_in.result.now)) (sym c.bytes_of.ensures) ∙ ap (option_map (bytes text)) (c.in-Some.ensures.1 n))
 
 pub returns-in-None : goal.returns-in-None
 returns-in-None c =
@@ -24,4 +24,4 @@ returns-in-None c =
     let n = c.args.name in
     let text = text_of t in
     let Γ = scope_of t s in
-    known-none Γ (ident text n) (find-map (λ x. x) (bytes text) (bytes text n) (take s.counts.regions s.regions) ∙ ap (λ es. option_map (bytes text) (find (bytes text) (bytes text n) es)) (sym c.regions-in.ensures.is) ∙ ap (λ b. option_map (bytes text) (find (bytes text) b c.regions-in.result.now)) (sym c.bytes-of.ensures) ∙ ap (option_map (bytes text)) c.in-None.ensures)
+    known-none Γ (ident text n) (find-map (λ x. x) (bytes text) (bytes text n) (take s.counts.regions s.regions) ∙ ap (λ es. option_map (bytes text) (find (bytes text) (bytes text n) es)) (sym c.regions_in.ensures.is) ∙ ap (λ b. option_map (bytes text) (find (bytes text) b c.regions_in.result.now)) (sym c.bytes_of.ensures) ∙ ap (option_map (bytes text)) c.in-None.ensures)

@@ -25,7 +25,7 @@ returns-in-Some c =
     let n = c.args.name in
     let text = text_of t in
     let Γ = scope_of t s in
-    record { asked = λ m. new-variable_by c.args.most Γ (ident text n) true _ (room (variable_of t) s.counts.variables c.args.most s.variables (omega arith)) (find-map (λ x. x.name) (variable_of t) (bytes text n) (take s.counts.variables s.variables) ∙ ap (λ es. option_map (variable_of t) (find (λ v. bytes text v.name) (bytes text n) es)) (sym c.variables-in-inside.ensures.is) ∙ ap (λ b. option_map (variable_of t) (find (λ v. bytes text v.name) b c.variables-in-inside.result.now)) (sym c.bytes-of.ensures) ∙ ap (option_map (variable_of t)) (c.in-Some.ensures.1 (record { name = n; sort = Sort.Int }))); room = tt }
+    record { asked = λ m. new-variable_by c.args.most Γ (ident text n) true _ (room (variable_of t) s.counts.variables c.args.most s.variables (omega arith)) (find-map (λ x. x.name) (variable_of t) (bytes text n) (take s.counts.variables s.variables) ∙ ap (λ es. option_map (variable_of t) (find (λ v. bytes text v.name) (bytes text n) es)) (sym c.variables_in-inside.ensures.is) ∙ ap (λ b. option_map (variable_of t) (find (λ v. bytes text v.name) b c.variables_in-inside.result.now)) (sym c.bytes_of.ensures) ∙ ap (option_map (variable_of t)) (c.in-Some.ensures.1 (record { name = n; sort = Sort.Int }))); room = tt }
 
 pub returns-in-None : goal.returns-in-None
 returns-in-None c =
@@ -34,4 +34,4 @@ returns-in-None c =
     let n = c.args.name in
     let text = text_of t in
     let Γ = scope_of t s in
-    record { asked = λ m. new-variable_by c.args.most Γ (ident text n) true _ (room (variable_of t) s.counts.variables c.args.most s.variables (omega arith)) (find-map (λ x. x.name) (variable_of t) (bytes text n) (take s.counts.variables s.variables) ∙ ap (λ es. option_map (variable_of t) (find (λ v. bytes text v.name) (bytes text n) es)) (sym c.variables-in-inside.ensures.is) ∙ ap (λ b. option_map (variable_of t) (find (λ v. bytes text v.name) b c.variables-in-inside.result.now)) (sym c.bytes-of.ensures) ∙ ap (option_map (variable_of t)) c.in-None.ensures); room = omega arith }
+    record { asked = λ m. new-variable_by c.args.most Γ (ident text n) true _ (room (variable_of t) s.counts.variables c.args.most s.variables (omega arith)) (find-map (λ x. x.name) (variable_of t) (bytes text n) (take s.counts.variables s.variables) ∙ ap (λ es. option_map (variable_of t) (find (λ v. bytes text v.name) (bytes text n) es)) (sym c.variables_in-inside.ensures.is) ∙ ap (λ b. option_map (variable_of t) (find (λ v. bytes text v.name) b c.variables_in-inside.result.now)) (sym c.bytes_of.ensures) ∙ ap (option_map (variable_of t)) c.in-None.ensures); room = omega arith }

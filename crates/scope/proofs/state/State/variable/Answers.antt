@@ -15,7 +15,7 @@ returns-in-Some c =
     let n = c.args.name in
     let text = text_of t in
     let Γ = scope_of t s in
-    variable-by Γ (ident text n) _ (find-map (λ x. x.name) (variable_of t) (bytes text n) (take s.counts.variables s.variables) ∙ ap (λ es. option_map (variable_of t) (find (λ v. bytes text v.name) (bytes text n) es)) (sym c.variables-in-inside.ensures.is) ∙ ap (λ b. option_map (variable_of t) (find (λ v. bytes text v.name) b c.variables-in-inside.result.now)) (sym c.bytes-of.ensures) ∙ ap (option_map (variable_of t)) (c.in-Some.ensures.1 _))
+    variable-by Γ (ident text n) _ (find-map (λ x. x.name) (variable_of t) (bytes text n) (take s.counts.variables s.variables) ∙ ap (λ es. option_map (variable_of t) (find (λ v. bytes text v.name) (bytes text n) es)) (sym c.variables_in-inside.ensures.is) ∙ ap (λ b. option_map (variable_of t) (find (λ v. bytes text v.name) b c.variables_in-inside.result.now)) (sym c.bytes_of.ensures) ∙ ap (option_map (variable_of t)) (c.in-Some.ensures.1 _))
 
 pub returns-in-None : goal.returns-in-None
 returns-in-None c =
@@ -24,4 +24,4 @@ returns-in-None c =
     let n = c.args.name in
     let text = text_of t in
     let Γ = scope_of t s in
-    variable-by Γ (ident text n) _ (find-map (λ x. x.name) (variable_of t) (bytes text n) (take s.counts.variables s.variables) ∙ ap (λ es. option_map (variable_of t) (find (λ v. bytes text v.name) (bytes text n) es)) (sym c.variables-in-inside.ensures.is) ∙ ap (λ b. option_map (variable_of t) (find (λ v. bytes text v.name) b c.variables-in-inside.result.now)) (sym c.bytes-of.ensures) ∙ ap (option_map (variable_of t)) c.in-None.ensures)
+    variable-by Γ (ident text n) _ (find-map (λ x. x.name) (variable_of t) (bytes text n) (take s.counts.variables s.variables) ∙ ap (λ es. option_map (variable_of t) (find (λ v. bytes text v.name) (bytes text n) es)) (sym c.variables_in-inside.ensures.is) ∙ ap (λ b. option_map (variable_of t) (find (λ v. bytes text v.name) b c.variables_in-inside.result.now)) (sym c.bytes_of.ensures) ∙ ap (option_map (variable_of t)) c.in-None.ensures)
