@@ -4,7 +4,7 @@ use Rattle.lexing.specs.declared.fault.Fault.{Fault}
 use Rattle.language.specs.Syntax.{Script}
 use Rattle.language.specs.Verdict.{Refused}
 use Rattle.language.specs.Checking.{checking, ◌>>◌}
-use Rattle.language.proofs.Questions.{answers-every_script}
+use Rattle.language.proofs.Questions.{answers_every_script}
 use Rattle.draft.specs.declared.table.Table.{Table}
 use Rattle.program.specs.declared.program.Program.{Program}
 use Rattle.checking.specs.Judged.{Judges}
@@ -22,7 +22,7 @@ pub passes : (end : ℕ) (s : Script) → ◌≡◌ {A = Result (Unit {0}) Refus
 passes end s h =
     ⊎_elim (λ e. e)
     (λ x. let z : ◌≡◌ {A = ℕ} 1 0 = ap ok_in h ∙ ap (λ (v : Result Script Refused). ok_in (v >> Ok tt)) x.1 in absurd (omega arith))
-    (answers-every_script end s)
+    (answers_every_script end s)
 
 -- a fault carried up unchanged is the same verdict
 pub carried-up : (t : Table) (r : Result (Unit {0}) Fault) (e f : Fault) → r ≡ Err e → e ≡ f → Judges t (Err f) → Judges t r

@@ -10,7 +10,7 @@ use scope::search::Named;
 
 // How many entries stand before the first of that name.
 pub fn index_of<E: Named>(table: &Table, entries: &[E], sought: &[u8]) -> usize
-    ensures { result ≡ index (λ e. bytes (text_of table.now) (key e)) sought.now entries.now }
+    ensures { result ≡ index (λ e. bytes (text_of table.now) (E.key e)) sought.now entries.now }
 {
     for (i, entry) in entries.iter().enumerate() {
         if same(bytes_of(table, entry.name()), sought) {

@@ -4,7 +4,7 @@ use mathlib.Core.Logic.{∥∥₁_map}
 use Rattle.std.proofs.lemmas.Result.{err_from_is_err_and}
 use Rattle.language.specs.Syntax.{Script}
 use Rattle.language.specs.Checking.{checking}
-use Rattle.language.proofs.Exactly.{passes-exactly_the_typed}
+use Rattle.language.proofs.Exactly.{passes_exactly_the_typed}
 use Rattle.draft.specs.Origin.{WasRead}
 use Rattle.draft.specs.Items.{items, items_of}
 use Rattle.checker.proofs.Verdicts.{passes, carried-up, no-success, kept}
@@ -23,7 +23,7 @@ returns-in-err-verify c =
       answer = carried-up c.args.draft.table c.from-residual.result _ _ p.1 p.2 c.in-err-verify.ensures;
       holds = λ s e k. no-success c.from-residual.result _ p.1 k;
       keeps = kept c.from-residual.result _;
-      law = passes-exactly_the_typed;
+      law = passes_exactly_the_typed;
     }
 
 pub returns : goal.returns
@@ -31,5 +31,5 @@ returns c = record {
   answer = c.in-ok-verify.ensures;
   holds = λ s e k. c.fill.ensures c.args.draft.table.length s e (passes c.args.draft.table.length s (c.in-ok-verify.ensures s e));
   keeps = tt;
-  law = passes-exactly_the_typed;
+  law = passes_exactly_the_typed;
 }

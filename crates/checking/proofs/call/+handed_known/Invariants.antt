@@ -2,5 +2,5 @@
 use Rattle.std.proofs.Common.{◌-◌}
 use Rattle.checking.proofs.call.+handed_known.Given as goal
 
-abbrev pub decreases-handed-known : goal.decreases-handed-known
-decreases-handed-known l = 4096 - l.position
+abbrev pub decreases-handed_known : goal.decreases-handed_known
+decreases-handed_known l = 4096 - l.position

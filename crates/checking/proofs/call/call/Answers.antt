@@ -17,8 +17,8 @@ returns-in-None c =
     let n = c.args.name in
     let text = text_of t in
     let e = find-map (λ h. h.0.name) (λ e. (ident text e.name, drop e.header (items t))) (bytes text n) (take f.count f.entries)
-    ∙ ap (λ es. option_map (λ e. (ident text e.name, drop e.header (items t))) (find (λ e. bytes text e.name) (bytes text n) es)) (sym c.functions-in-inside.ensures.is)
-    ∙ ap (λ b. option_map (λ e. (ident text e.name, drop e.header (items t))) (find (λ e. bytes text e.name) b c.functions-in-inside.result.now)) (sym c.bytes-of.ensures)
+    ∙ ap (λ es. option_map (λ e. (ident text e.name, drop e.header (items t))) (find (λ e. bytes text e.name) (bytes text n) es)) (sym c.functions_in-inside.ensures.is)
+    ∙ ap (λ b. option_map (λ e. (ident text e.name, drop e.header (items t))) (find (λ e. bytes text e.name) b c.functions_in-inside.result.now)) (sym c.bytes_of.ensures)
     ∙ ap (option_map (λ e. (ident text e.name, drop e.header (items t)))) c.in-None.ensures in
     sym (ap (λ o. found o n.place >>= (λ h. called (scope_of t c.args.state.now) (ident text n) (drop c.args.position (items t)) h.1)) e)
 
@@ -29,7 +29,7 @@ returns-in-Some c =
     let n = c.args.name in
     let text = text_of t in
     let e = find-map (λ h. h.0.name) (λ e. (ident text e.name, drop e.header (items t))) (bytes text n) (take f.count f.entries)
-    ∙ ap (λ es. option_map (λ e. (ident text e.name, drop e.header (items t))) (find (λ e. bytes text e.name) (bytes text n) es)) (sym c.functions-in-inside.ensures.is)
-    ∙ ap (λ b. option_map (λ e. (ident text e.name, drop e.header (items t))) (find (λ e. bytes text e.name) b c.functions-in-inside.result.now)) (sym c.bytes-of.ensures)
+    ∙ ap (λ es. option_map (λ e. (ident text e.name, drop e.header (items t))) (find (λ e. bytes text e.name) (bytes text n) es)) (sym c.functions_in-inside.ensures.is)
+    ∙ ap (λ b. option_map (λ e. (ident text e.name, drop e.header (items t))) (find (λ e. bytes text e.name) b c.functions_in-inside.result.now)) (sym c.bytes_of.ensures)
     ∙ ap (option_map (λ e. (ident text e.name, drop e.header (items t)))) (c.in-Some.ensures.1 _) in
     c.called.ensures ∙ sym (ap (λ o. found o n.place >>= (λ h. called (scope_of t c.args.state.now) (ident text n) (drop c.args.position (items t)) h.1)) e)

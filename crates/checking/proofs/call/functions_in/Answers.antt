@@ -8,6 +8,6 @@ returns c =
     let f = c.args.functions.now in
     let e : 64 ≡ length f.entries = omega arith in
     record {
-      is = c.split-at.ensures.front ∙ ap (λ n. take n f.entries) (c.min.ensures ∙ ap (λ n. min f.count n) e) ∙ take_min f.count f.entries;
+      is = c.split_at.ensures.front ∙ ap (λ n. take n f.entries) (c.min.ensures ∙ ap (λ n. min f.count n) e) ∙ take_min f.count f.entries;
       size = sym e;
     }

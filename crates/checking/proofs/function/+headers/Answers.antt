@@ -3,13 +3,13 @@ use Rattle.std.proofs.Common.{◌≡◌, ◌<◌, ap, arith, rules}
 use Rattle.checking.proofs.Steps.{opened-headers}
 use Rattle.checking.proofs.function.+headers.Goals as goal
 
-pub returns-in-err-new-function : goal.returns-in-err-new-function
-returns-in-err-new-function t c =
+pub returns-in_err-new_function-in-Function : goal.returns-in_err-new_function-in-Function
+returns-in_err-new_function-in-Function t c =
     let o = opened-headers c.args.steps (omega arith) in
     search (rules, o)
 
-pub returns-in-err-behind : goal.returns-in-err-behind
-returns-in-err-behind t c =
+pub returns-in_err-behind-in-Function : goal.returns-in_err-behind-in-Function
+returns-in_err-behind-in-Function t c =
     let o = opened-headers c.args.steps (omega arith) in
     search (rules, o)
 
@@ -18,13 +18,13 @@ returns-in-None t c =
     let o = opened-headers c.args.steps (omega arith) in
     search (rules, o)
 
-pub returns-in-ok-behind : goal.returns-in-ok-behind
-returns-in-ok-behind t c =
+pub returns-in_ok-behind-in-Function : goal.returns-in_ok-behind-in-Function
+returns-in_ok-behind-in-Function t c =
     let o = opened-headers c.args.steps (omega arith) in
-    let known = c.add.ensures c.in-ok-new-function.ensures.room c.args.table.now in
+    let known = c.add.ensures c.in_ok-new_function-in-Function.ensures.room c.args.table.now in
     search (rules, o, known)
 
-pub returns-in-default : goal.returns-in-default
-returns-in-default t c =
+pub returns-in_default : goal.returns-in_default
+returns-in_default t c =
     let o = opened-headers c.args.steps (omega arith) in
     search (rules, o)

@@ -2,5 +2,5 @@
 use Rattle.std.proofs.Common.{◌-◌}
 use Rattle.checking.proofs.function.+next_function.Given as goal
 
-abbrev pub decreases-next-function : goal.decreases-next-function
-decreases-next-function l = 4096 - l.position
+abbrev pub decreases-next_function : goal.decreases-next_function
+decreases-next_function l = 4096 - l.position

@@ -19,11 +19,11 @@ returns-in-None c =
     let main = codes "main" in
     let pick = λ (e : Function). let h : Ident × List Item = (ident text e.name, drop e.header (items t)) in h in
     let e = find-map (λ h. h.0.name) pick main (take f.count f.entries)
-    ∙ ap (λ es. option_map pick (find (λ e. bytes text e.name) main es)) (sym c.functions-in-inside.ensures.is) in
+    ∙ ap (λ es. option_map pick (find (λ e. bytes text e.name) main es)) (sym c.functions_in-inside.ensures.is) in
     sym (ap (walk_main t.length) (e ∙ ap (option_map pick) c.in-None.ensures))
 
-pub returns-then-main-like : goal.returns-then-main-like
-returns-then-main-like c =
+pub returns-then-main_like : goal.returns-then-main_like
+returns-then-main_like c =
     let d : Function = record { name = record { place = 0; length = 0 }; header = 0 } in
     let t = c.args.table.now in
     let f = c.args.functions.now in
@@ -31,11 +31,11 @@ returns-then-main-like c =
     let main = codes "main" in
     let pick = λ (e : Function). let h : Ident × List Item = (ident text e.name, drop e.header (items t)) in h in
     let e = find-map (λ h. h.0.name) pick main (take f.count f.entries)
-    ∙ ap (λ es. option_map pick (find (λ e. bytes text e.name) main es)) (sym c.functions-in-inside.ensures.is) in
-    sym (ap (walk_main t.length) (e ∙ ap (option_map pick) (c.in-Some.ensures.1 d)) ∙ ap (λ v. ask v 9 (get_or c.functions-in-inside.result.now c.in-Some.i d).name.place) (sym c.main_like.ensures ∙ c.if-main-like.true))
+    ∙ ap (λ es. option_map pick (find (λ e. bytes text e.name) main es)) (sym c.functions_in-inside.ensures.is) in
+    sym (ap (walk_main t.length) (e ∙ ap (option_map pick) (c.in-Some.ensures.1 d)) ∙ ap (λ v. ask v 9 (get_or c.functions_in-inside.result.now c.in-Some.i d).name.place) (sym c.main_like.ensures ∙ c.if-main_like.true))
 
-pub returns-else-main-like : goal.returns-else-main-like
-returns-else-main-like c =
+pub returns-else-main_like : goal.returns-else-main_like
+returns-else-main_like c =
     let d : Function = record { name = record { place = 0; length = 0 }; header = 0 } in
     let t = c.args.table.now in
     let f = c.args.functions.now in
@@ -43,5 +43,5 @@ returns-else-main-like c =
     let main = codes "main" in
     let pick = λ (e : Function). let h : Ident × List Item = (ident text e.name, drop e.header (items t)) in h in
     let e = find-map (λ h. h.0.name) pick main (take f.count f.entries)
-    ∙ ap (λ es. option_map pick (find (λ e. bytes text e.name) main es)) (sym c.functions-in-inside.ensures.is) in
-    sym (ap (walk_main t.length) (e ∙ ap (option_map pick) (c.in-Some.ensures.1 d)) ∙ ap (λ v. ask v 9 (get_or c.functions-in-inside.result.now c.in-Some.i d).name.place) (sym c.main_like.ensures ∙ c.if-main-like.false))
+    ∙ ap (λ es. option_map pick (find (λ e. bytes text e.name) main es)) (sym c.functions_in-inside.ensures.is) in
+    sym (ap (walk_main t.length) (e ∙ ap (option_map pick) (c.in-Some.ensures.1 d)) ∙ ap (λ v. ask v 9 (get_or c.functions_in-inside.result.now c.in-Some.i d).name.place) (sym c.main_like.ensures ∙ c.if-main_like.false))

@@ -2,5 +2,5 @@
 use Rattle.std.proofs.Common.{◌-◌}
 use Rattle.checking.proofs.row.+behind_handed.Given as goal
 
-abbrev pub decreases-behind-handed : goal.decreases-behind-handed
-decreases-behind-handed l = 4096 - l.position
+abbrev pub decreases-behind_handed : goal.decreases-behind_handed
+decreases-behind_handed l = 4096 - l.position

@@ -2,5 +2,5 @@
 use Rattle.std.proofs.Common.{◌-◌}
 use Rattle.checking.proofs.row.+outcome_at.Given as goal
 
-abbrev pub decreases-outcome-at : goal.decreases-outcome-at
-decreases-outcome-at l = 4096 - l.position
+abbrev pub decreases-outcome_at : goal.decreases-outcome_at
+decreases-outcome_at l = 4096 - l.position

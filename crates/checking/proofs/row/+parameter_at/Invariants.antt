@@ -2,5 +2,5 @@
 use Rattle.std.proofs.Common.{◌-◌}
 use Rattle.checking.proofs.row.+parameter_at.Given as goal
 
-abbrev pub decreases-parameter-at : goal.decreases-parameter-at
-decreases-parameter-at l = 4096 - l.position
+abbrev pub decreases-parameter_at : goal.decreases-parameter_at
+decreases-parameter_at l = 4096 - l.position

@@ -2,5 +2,5 @@
 use Rattle.std.proofs.Common.{◌-◌}
 use Rattle.checking.proofs.row.+same_arguments.Given as goal
 
-abbrev pub decreases-same-arguments : goal.decreases-same-arguments
-decreases-same-arguments l = 4096 - l.position
+abbrev pub decreases-same_arguments : goal.decreases-same_arguments
+decreases-same_arguments l = 4096 - l.position

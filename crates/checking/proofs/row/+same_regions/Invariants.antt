@@ -2,5 +2,5 @@
 use Rattle.std.proofs.Common.{◌-◌}
 use Rattle.checking.proofs.row.+same_regions.Given as goal
 
-abbrev pub decreases-same-regions : goal.decreases-same-regions
-decreases-same-regions l = 4096 - l.position
+abbrev pub decreases-same_regions : goal.decreases-same_regions
+decreases-same_regions l = 4096 - l.position

@@ -10,6 +10,6 @@ returns c =
     let t = c.args.table.now in
     let e : 4096 ≡ length t.commands = omega arith in
     record {
-      is = ap length (c.split-at.ensures.front ∙ ap (λ n. take n t.commands) (c.min.ensures ∙ ap (λ n. min t.count n) e) ∙ take_min t.count t.commands) ∙ sym (length-map (take t.count t.commands) (item (text_of t)));
+      is = ap length (c.split_at.ensures.front ∙ ap (λ n. take n t.commands) (c.min.ensures ∙ ap (λ n. min t.count n) e) ∙ take_min t.count t.commands) ∙ sym (length-map (take t.count t.commands) (item (text_of t)));
       within = omega arith;
     }

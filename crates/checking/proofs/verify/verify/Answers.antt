@@ -8,8 +8,8 @@ use Rattle.checking.proofs.verify.verify.Goals as goal
 pub returns : goal.returns
 returns c = λ s e.
     let t = c.args.table.now in
-    let n = c.command-count.result + 1 in
+    let n = c.command_count.result + 1 in
     let l : length (items t) ≡ length (items_of s) = ap length e in
-    let k = c.command-count.ensures.is in
+    let k = c.command_count.ensures.is in
     let h : length (items_of s) < n = omega arith in
     c.walk.ensures ∙ ap (walk_script n t.length) e ∙ script-told s n t.length h

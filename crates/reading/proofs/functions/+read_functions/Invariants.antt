@@ -3,5 +3,5 @@ use Rattle.std.proofs.Common.{length}
 use Rattle.reading.specs.Cursors.{ahead}
 use Rattle.reading.proofs.functions.+read_functions.Given as goal
 
-abbrev pub decreases-read-functions : goal.decreases-read-functions
-decreases-read-functions l = length (ahead l.cursor)
+abbrev pub decreases-read_functions : goal.decreases-read_functions
+decreases-read_functions l = length (ahead l.cursor)

@@ -1,13 +1,18 @@
 -- Equality of bytes, as the language tests it.
-use Rattle.std.proofs.Common.{rules}
-use Rattle.std.proofs.lemmas.Slice.Eq.{slice_eq-Decides, compares_Decides, IsBytesEq}
-use Rattle.std.proofs.lemmas.Bool.Decides.{same_from_decides}
+use Rattle.std.proofs.Common.{◌≡◌, ℕ, Bool, true, false, ◌&&◌, eqb, List, [], ◌∷◌, refl, ap, ◌∙◌}
+use Rattle.std.specs.Cmp.Lexicographic.{pointwise}
 use Rattle.lexing.specs.Tokens.{same_bytes}
 use Rattle.reading.proofs.head.same.Goals as goal
 
+joined : (t r : Bool) → (t && r) ≡ (elim t [ true ↦ r | false ↦ false ])
+joined true r = refl
+joined false r = refl
+
+pointwise-same : (a b : List ℕ) → pointwise eqb a b ≡ same_bytes a b
+pointwise-same [] [] = refl
+pointwise-same [] (y ∷ ys) = refl
+pointwise-same (x ∷ xs) [] = refl
+pointwise-same (x ∷ xs) (y ∷ ys) = ap (λ r. eqb x y && r) (pointwise-same xs ys) ∙ joined (eqb x y) (same_bytes xs ys)
+
 pub returns : goal.returns
-returns c =
-    let h : IsBytesEq same_bytes = search rules in
-    let d = slice_eq-Decides _ _ _ c.eq.ensures in
-    let e = compares_Decides same_bytes h c.args.a.now c.args.b.now in
-    same_from_decides _ _ d e
+returns c = c.eq.ensures ∙ pointwise-same c.args.a.now c.args.b.now

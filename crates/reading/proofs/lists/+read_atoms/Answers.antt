@@ -12,35 +12,35 @@ use Rattle.reading.proofs.Stages.{start, go, push, call, done, broken, atom-told
 use Rattle.reading.proofs.Forms.{commas-is, commas-then, commas-met, commas-missed}
 use Rattle.reading.proofs.lists.+read_atoms.Goals as goal
 
-pub returns-in-err-atom : goal.returns-in-err-atom
-returns-in-err-atom t c = λ room h.
+pub returns-in_err-atom : goal.returns-in_err-atom
+returns-in_err-atom t c = λ room h.
     let x = c.args.cursor in
     let n = end_of x in
     let q = commas-is n (codes ")") (atom_of n) room _ (ahead x) h in
-    broken _ _ _ _ _ (err_from_is_err_and c.from-residual.result c.from-residual.ensures.1) (q ∙ ap (λ v. then v (commas-then n (codes ")") (atom_of n) (room - 1))) c.in-err-atom.ensures)
+    broken _ _ _ _ _ (err_from_is_err_and c.from_residual.result c.from_residual.ensures.1) (q ∙ ap (λ v. then v (commas-then n (codes ")") (atom_of n) (room - 1))) c.in_err-atom.ensures)
 
 pub returns-in-Some : goal.returns-in-Some
 returns-in-Some t c = λ room h.
     let x = c.args.cursor in
     let n = end_of x in
     let q = commas-is n (codes ")") (atom_of n) room _ (ahead x) h in
-    let e = c.in-ok-atom.ensures in
-    let m = MatchOption-at_some _ _ _ c.in-Some.is c.in-ok-next.ensures in
-    let s1 = push c.in-ok-atom.atom c.push.new.self (go (start c.requires) e.0) c.push.ensures.text c.push.ensures.items c.push.ensures.count c.push.ensures.length in
+    let e = c.in_ok-atom.ensures in
+    let m = MatchOption-at_some _ _ _ c.in-Some.is c.in_ok-next.ensures in
+    let s1 = push c.in_ok-atom.atom c.push.new.self (go (start c.requires) e.0) c.push.ensures.text c.push.ensures.items c.push.ensures.count c.push.ensures.length in
     let s = go s1 m.0 in
     let near = s.near in
-    MatchResult-weaker c.read-atoms.result (c.read-atoms.ensures (room - 1) (omega arith))
-    (λ d g. done (e.1.tree ∷ g.tree) (call s g) (q ∙ commas-met n (codes ")") (atom_of n) (room - 1) _ (ahead x) c.in-ok-atom.behind c.in-Some.next _ s1.end e.1.reads m.1 (ap (λ n. commas n (codes ")") (atom_of n) (room - 1) (ahead c.in-Some.next)) (sym s.end) ∙ g.reads)) (λ after. e.1.told _))
-    (λ y f. q ∙ commas-met n (codes ")") (atom_of n) (room - 1) _ (ahead x) c.in-ok-atom.behind c.in-Some.next _ s1.end e.1.reads m.1 (ap (λ n. commas n (codes ")") (atom_of n) (room - 1) (ahead c.in-Some.next)) (sym s.end) ∙ f))
+    MatchResult-weaker c.read_atoms.result (c.read_atoms.ensures (room - 1) (omega arith))
+    (λ d g. done (e.1.tree ∷ g.tree) (call s g) (q ∙ commas-met n (codes ")") (atom_of n) (room - 1) _ (ahead x) c.in_ok-atom.behind c.in-Some.next _ s1.end e.1.reads m.1 (ap (λ n. commas n (codes ")") (atom_of n) (room - 1) (ahead c.in-Some.next)) (sym s.end) ∙ g.reads)) (λ after. e.1.told _))
+    (λ y f. q ∙ commas-met n (codes ")") (atom_of n) (room - 1) _ (ahead x) c.in_ok-atom.behind c.in-Some.next _ s1.end e.1.reads m.1 (ap (λ n. commas n (codes ")") (atom_of n) (room - 1) (ahead c.in-Some.next)) (sym s.end) ∙ f))
 
 pub returns-in-None : goal.returns-in-None
 returns-in-None t c = λ room h.
     let x = c.args.cursor in
     let n = end_of x in
     let q = commas-is n (codes ")") (atom_of n) room _ (ahead x) h in
-    let e = c.in-ok-atom.ensures in
-    let m = MatchOption-at_none _ _ c.in-None.is c.in-ok-next.ensures in
-    let s = push c.in-ok-atom.atom c.push.new.self (go (start c.requires) e.0) c.push.ensures.text c.push.ensures.items c.push.ensures.count c.push.ensures.length in
+    let e = c.in_ok-atom.ensures in
+    let m = MatchOption-at_none _ _ c.in-None.is c.in_ok-next.ensures in
+    let s = push c.in_ok-atom.atom c.push.new.self (go (start c.requires) e.0) c.push.ensures.text c.push.ensures.items c.push.ensures.count c.push.ensures.length in
     MatchResult-weaker c.mark.result c.mark.ensures
-    (λ d g. done (e.1.tree ∷ []) (go s g.0) (q ∙ commas-missed n (codes ")") (atom_of n) (room - 1) _ (ahead x) c.in-ok-atom.behind _ s.end e.1.reads m (ap (λ n. mark_of n (codes ")") (ahead c.in-ok-atom.behind)) (sym s.end) ∙ g.1)) (λ after. e.1.told _))
-    (λ y f. q ∙ commas-missed n (codes ")") (atom_of n) (room - 1) _ (ahead x) c.in-ok-atom.behind _ s.end e.1.reads m (ap (λ n. mark_of n (codes ")") (ahead c.in-ok-atom.behind)) (sym s.end) ∙ f))
+    (λ d g. done (e.1.tree ∷ []) (go s g.0) (q ∙ commas-missed n (codes ")") (atom_of n) (room - 1) _ (ahead x) c.in_ok-atom.behind _ s.end e.1.reads m (ap (λ n. mark_of n (codes ")") (ahead c.in_ok-atom.behind)) (sym s.end) ∙ g.1)) (λ after. e.1.told _))
+    (λ y f. q ∙ commas-missed n (codes ")") (atom_of n) (room - 1) _ (ahead x) c.in_ok-atom.behind _ s.end e.1.reads m (ap (λ n. mark_of n (codes ")") (ahead c.in_ok-atom.behind)) (sym s.end) ∙ f))

@@ -3,5 +3,5 @@ use Rattle.std.proofs.Common.{length}
 use Rattle.reading.specs.Cursors.{ahead}
 use Rattle.reading.proofs.lists.+read_names.Given as goal
 
-abbrev pub decreases-read-names : goal.decreases-read-names
-decreases-read-names l = length (ahead l.cursor)
+abbrev pub decreases-read_names : goal.decreases-read_names
+decreases-read_names l = length (ahead l.cursor)

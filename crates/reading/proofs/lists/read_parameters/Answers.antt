@@ -15,7 +15,7 @@ pub returns-in-None : goal.returns-in-None
 returns-in-None c = λ room h.
     let x = c.args.cursor in
     let n = end_of x in
-    let q = on-other Mark (codes ")") x (λ _. give []) (commas n (codes ")") (param_of n most_lists) room) (MatchOption-at_none _ _ c.in-None.is c.in-ok-behind.ensures) in
-    MatchResult-weaker c.read-some-parameters.result (c.read-some-parameters.ensures room h)
+    let q = on-other Mark (codes ")") x (λ _. give []) (commas n (codes ")") (param_of n most_lists) room) (MatchOption-at_none _ _ c.in-None.is c.in_ok-behind.ensures) in
+    MatchResult-weaker c.read_some_parameters.result (c.read_some_parameters.ensures room h)
     (λ d g. done g.tree (call (start c.requires) g) (q ∙ g.reads) (λ after. refl))
     (λ y f. q ∙ f)

@@ -12,39 +12,39 @@ use Rattle.reading.specs.Parts.{behind_word}
 use Rattle.reading.proofs.Stages.{start, go, push, call, done, broken, ready}
 use Rattle.reading.proofs.sides.read_call.Goals as goal
 
-pub returns-in-err-arguments : goal.returns-in-err-arguments
-returns-in-err-arguments c = λ room h.
+pub returns-in_err-arguments : goal.returns-in_err-arguments
+returns-in_err-arguments c = λ room h.
     let x = c.args.cursor in
     let n = end_of x in
-    let k = c.in-ok-behind.ensures in
-    let e = c.in-ok-name.ensures in
+    let k = c.in_ok-behind.ensures in
+    let e = c.in_ok-name.ensures in
     let s = go (go (start c.requires.ready) k.0) e.0 in
     let near = s.near in
     let q = ap (behind_word n (call_of n room)) k.1 in
-    let r = ap (λ n. regions n room (ahead c.in-ok-name.regions)) (sym s.end) ∙ c.in-err-arguments.ensures room (omega arith) in
-    broken _ _ _ _ _ (err_from_is_err_and c.from-residual-in-err-arguments.result c.from-residual-in-err-arguments.ensures.1) (q ∙ search rules)
+    let r = ap (λ n. regions n room (ahead c.in_ok-name.regions)) (sym s.end) ∙ c.in_err-arguments.ensures room (omega arith) in
+    broken _ _ _ _ _ (err_from_is_err_and c.from_residual-in_err-arguments.result c.from_residual-in_err-arguments.ensures.1) (q ∙ search rules)
 
-pub read-arguments-requires : goal.read-arguments-requires
-read-arguments-requires c =
-    let k = c.in-ok-behind.ensures in
-    let e = c.in-ok-name.ensures in
-    let s = push (Call c.args.cursor.place c.in-ok-name.name) c.push.new.self (go (go (start c.requires.ready) k.0) e.0) c.push.ensures.text c.push.ensures.items c.push.ensures.count c.push.ensures.length in
-    ready (call s (c.in-ok-arguments.ensures (suc (length (ahead c.in-ok-name.regions))) (omega arith)))
+pub read_arguments-requires : goal.read_arguments-requires
+read_arguments-requires c =
+    let k = c.in_ok-behind.ensures in
+    let e = c.in_ok-name.ensures in
+    let s = push (Call c.args.cursor.place c.in_ok-name.name) c.push.new.self (go (go (start c.requires.ready) k.0) e.0) c.push.ensures.text c.push.ensures.items c.push.ensures.count c.push.ensures.length in
+    ready (call s (c.in_ok-arguments.ensures (suc (length (ahead c.in_ok-name.regions))) (omega arith)))
 
 pub returns : goal.returns
 returns c = λ room h.
     let x = c.args.cursor in
     let n = end_of x in
-    let k = c.in-ok-behind.ensures in
-    let e = c.in-ok-name.ensures in
-    let name = c.in-ok-name.name in
+    let k = c.in_ok-behind.ensures in
+    let e = c.in_ok-name.ensures in
+    let name = c.in_ok-name.name in
     let s = push (Call x.place name) c.push.new.self (go (go (start c.requires.ready) k.0) e.0) c.push.ensures.text c.push.ensures.items c.push.ensures.count c.push.ensures.length in
     let near = s.near in
     let q = ap (behind_word n (call_of n room)) k.1 in
-    let g = c.in-ok-arguments.ensures room (omega arith) in
-    let r = ap (λ n. regions n room (ahead c.in-ok-name.regions)) (sym s.end) ∙ g.reads in
+    let g = c.in_ok-arguments.ensures room (omega arith) in
+    let r = ap (λ n. regions n room (ahead c.in_ok-name.regions)) (sym s.end) ∙ g.reads in
     let s2 = call s g in
     let near2 = s2.near in
-    MatchResult-weaker c.read-arguments.result (c.read-arguments.ensures room (omega arith))
-    (λ d f. let v = ap (λ n. elements n (atom_of n) room (ahead c.in-ok-arguments.arguments)) (sym s2.end) ∙ f.reads in done (a-call-of x.place (ident x.text.now name) g.tree f.tree) (call s2 f) (q ∙ search rules) (λ after. refl))
-    (λ y f. let v = ap (λ n. elements n (atom_of n) room (ahead c.in-ok-arguments.arguments)) (sym s2.end) ∙ f in q ∙ search rules)
+    MatchResult-weaker c.read_arguments.result (c.read_arguments.ensures room (omega arith))
+    (λ d f. let v = ap (λ n. elements n (atom_of n) room (ahead c.in_ok-arguments.arguments)) (sym s2.end) ∙ f.reads in done (a-call-of x.place (ident x.text.now name) g.tree f.tree) (call s2 f) (q ∙ search rules) (λ after. refl))
+    (λ y f. let v = ap (λ n. elements n (atom_of n) room (ahead c.in_ok-arguments.arguments)) (sym s2.end) ∙ f in q ∙ search rules)

@@ -14,50 +14,50 @@ use Rattle.reading.proofs.types.+read_type.Goals as goal
 
 pub returns-in-Some : goal.returns-in-Some
 returns-in-Some t c =
-    let e = MatchOption-at_some _ _ _ c.in-Some.is c.in-ok-behind.ensures in
+    let e = MatchOption-at_some _ _ _ c.in-Some.is c.in_ok-behind.ensures in
     done int (push Int c.push.new.self (go (start c.requires) e.0) c.push.ensures.text c.push.ensures.items c.push.ensures.count c.push.ensures.length) (type-int c.args.lists c.args.cursor c.in-Some.behind e.1) (λ after. refl)
 
-pub returns-in-default-2 : goal.returns-in-default-2
-returns-in-default-2 t c =
-    type-refused c.args.lists c.args.cursor c.requires.sound (MatchOption-at_none _ _ c.in-default.is c.in-ok-behind.ensures) (MatchOption-at_none _ _ c.in-default-2.is c.in-ok-behind-2.ensures)
+pub returns-in_default-2 : goal.returns-in_default-2
+returns-in_default-2 t c =
+    type-refused c.args.lists c.args.cursor c.requires.sound (MatchOption-at_none _ _ c.in_default.is c.in_ok-behind.ensures) (MatchOption-at_none _ _ c.in_default-2.is c.in_ok-behind-2.ensures)
     ∙ ap (λ f. Err (refused f)) (sym c.refused.ensures)
 
-pub returns-in-err-region : goal.returns-in-err-region
-returns-in-err-region t c =
+pub returns-in_err-region : goal.returns-in_err-region
+returns-in_err-region t c =
     let x = c.args.cursor in
-    let e = MatchOption-at_some _ _ _ c.in-Some-2.is c.in-ok-behind-2.ensures in
-    let q = type-list c.args.lists x c.in-Some-2.behind (MatchOption-at_none _ _ c.in-default.is c.in-ok-behind.ensures) e.1 (omega arith) in
+    let e = MatchOption-at_some _ _ _ c.in-Some-2.is c.in_ok-behind-2.ensures in
+    let q = type-list c.args.lists x c.in-Some-2.behind (MatchOption-at_none _ _ c.in_default.is c.in_ok-behind.ensures) e.1 (omega arith) in
     let s = go (start c.requires) e.0 in
-    let r = ap (λ n. opened_of n (ahead c.in-Some-2.behind)) (sym s.end) ∙ c.in-err-region.ensures in
-    broken _ _ _ _ _ (err_from_is_err_and c.from-residual-in-err-region.result c.from-residual-in-err-region.ensures.1) (q ∙ ap (λ v. then v (list-then (end_of x) (c.args.lists - 1))) r)
+    let r = ap (λ n. opened_of n (ahead c.in-Some-2.behind)) (sym s.end) ∙ c.in_err-region.ensures in
+    broken _ _ _ _ _ (err_from_is_err_and c.from_residual-in_err-region.result c.from_residual-in_err-region.ensures.1) (q ∙ ap (λ v. then v (list-then (end_of x) (c.args.lists - 1))) r)
 
-pub returns-in-err-close : goal.returns-in-err-close
-returns-in-err-close t c =
+pub returns-in_err-close : goal.returns-in_err-close
+returns-in_err-close t c =
     let x = c.args.cursor in
     let m = c.args.lists - 1 in
-    let e = MatchOption-at_some _ _ _ c.in-Some-2.is c.in-ok-behind-2.ensures in
-    let q = type-list c.args.lists x c.in-Some-2.behind (MatchOption-at_none _ _ c.in-default.is c.in-ok-behind.ensures) e.1 (omega arith) in
+    let e = MatchOption-at_some _ _ _ c.in-Some-2.is c.in_ok-behind-2.ensures in
+    let q = type-list c.args.lists x c.in-Some-2.behind (MatchOption-at_none _ _ c.in_default.is c.in_ok-behind.ensures) e.1 (omega arith) in
     let s = go (start c.requires) e.0 in
-    let o = c.in-ok-region.ensures in
+    let o = c.in_ok-region.ensures in
     let r = ap (λ n. opened_of n (ahead c.in-Some-2.behind)) (sym s.end) ∙ o.1 in
     let s2 = go s o.0 in
-    broken _ _ _ _ _ (err_from_is_err_and c.from-residual-in-err-close.result c.from-residual-in-err-close.ensures.1)
-    (q ∙ list-reads (end_of x) m _ (ahead c.in-Some-2.behind) _ _ r (ap (λ n. type_of n m (ahead c.in-ok-region.inner)) (sym s2.end) ∙ c.in-err-close.ensures))
+    broken _ _ _ _ _ (err_from_is_err_and c.from_residual-in_err-close.result c.from_residual-in_err-close.ensures.1)
+    (q ∙ list-reads (end_of x) m _ (ahead c.in-Some-2.behind) _ _ r (ap (λ n. type_of n m (ahead c.in_ok-region.inner)) (sym s2.end) ∙ c.in_err-close.ensures))
 
 pub returns : goal.returns
 returns t c =
     let x = c.args.cursor in
     let m = c.args.lists - 1 in
-    let e = MatchOption-at_some _ _ _ c.in-Some-2.is c.in-ok-behind-2.ensures in
-    let q = type-list c.args.lists x c.in-Some-2.behind (MatchOption-at_none _ _ c.in-default.is c.in-ok-behind.ensures) e.1 (omega arith) in
+    let e = MatchOption-at_some _ _ _ c.in-Some-2.is c.in_ok-behind-2.ensures in
+    let q = type-list c.args.lists x c.in-Some-2.behind (MatchOption-at_none _ _ c.in_default.is c.in_ok-behind.ensures) e.1 (omega arith) in
     let s = go (start c.requires) e.0 in
-    let o = c.in-ok-region.ensures in
+    let o = c.in_ok-region.ensures in
     let r = ap (λ n. opened_of n (ahead c.in-Some-2.behind)) (sym s.end) ∙ o.1 in
-    let name = c.in-ok-region.region in
+    let name = c.in_ok-region.region in
     let s2 = push (ListCommand name) c.push-2.new.self (go s o.0) c.push-2.ensures.text c.push-2.ensures.items c.push-2.ensures.count c.push-2.ensures.length in
-    let g = c.in-ok-close.ensures in
+    let g = c.in_ok-close.ensures in
     let s3 = call s2 g in
-    let k = q ∙ list-reads (end_of x) m _ (ahead c.in-Some-2.behind) _ _ r (ap (λ n. type_of n m (ahead c.in-ok-region.inner)) (sym s2.end) ∙ g.reads) in
+    let k = q ∙ list-reads (end_of x) m _ (ahead c.in-Some-2.behind) _ _ r (ap (λ n. type_of n m (ahead c.in_ok-region.inner)) (sym s2.end) ∙ g.reads) in
     MatchResult-weaker c.mark.result c.mark.ensures
     (λ d h. done (list (ident x.text.now name) g.tree) (go s3 h.0) (k ∙ search rules) (λ after. refl))
     (λ y f. k ∙ search rules)

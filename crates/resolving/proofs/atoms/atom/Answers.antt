@@ -8,4 +8,4 @@ pub returns-in-Variable : goal.returns-in-Variable
 returns-in-Variable c Γ a T after s e k =
     let t = c.args.table.now in
     let there = ap (λ i. item (text_of t) i ∷ drop (c.args.position + 1) (items t)) (sym c.in-Variable.is) ∙ sym c.in-Some.ensures.1 ∙ e in
-    variable-atom t c.args.names.now Γ a T after (drop (c.args.position + 1) (items t)) c.in-Variable.name c.variable_slot.result c.sort-in.result s c.variable_slot.ensures c.sort-in.ensures there k
+    variable-atom t c.args.names.now Γ a T after (drop (c.args.position + 1) (items t)) c.in-Variable.name c.variable-slot.result c.sort_in.result s c.variable-slot.ensures c.sort_in.ensures there k

@@ -25,13 +25,13 @@ returns-in-Number m c =
           (λ d rest e. no-block_number d _ rest _ _ (sym there ∙ e)) c.atom-known-in-Number.ensures c.push-in-Number.ensures c.argue-in-Number.ensures.walks;
     }
 
-pub returns-in-default : goal.returns-in-default
-returns-in-default m c =
+pub returns-in_default : goal.returns-in_default
+returns-in_default m c =
     let t = c.args.table.now in
     record {
       onward = omega arith;
       walks = argue_none t c.args.names.now c.args.tape.now c.args.position
-          (λ a rest e. no-atom (text_of t) c.in-Some.command a _ rest c.in-default.not-Variable c.in-default.not-Number (sym c.in-Some.ensures.1 ∙ e));
+          (λ a rest e. no-atom (text_of t) c.in-Some.command a _ rest c.in_default.not-Variable c.in_default.not-Number (sym c.in-Some.ensures.1 ∙ e));
     }
 
 pub returns-in-None : goal.returns-in-None

@@ -15,13 +15,13 @@ returns-in-Handed m c =
           (front_kept t c.args.position _ _ c.in-Handed.is c.in-Some.ensures.1) c.region-region.ensures c.push.ensures c.hand.ensures.walks;
     }
 
-pub returns-in-default : goal.returns-in-default
-returns-in-default m c =
+pub returns-in_default : goal.returns-in_default
+returns-in_default m c =
     let t = c.args.table.now in
     record {
       onward = omega arith;
       walks = hand_none t c.args.names.now c.args.tape.now c.args.position
-          (λ r xs e. no-handed (text_of t) c.in-Some.command r c.in-default.not-Handed (front_item c.in-Some.ensures.1 e));
+          (λ r xs e. no-handed (text_of t) c.in-Some.command r c.in_default.not-Handed (front_item c.in-Some.ensures.1 e));
     }
 
 pub returns-in-None : goal.returns-in-None

@@ -9,14 +9,14 @@ use Rattle.resolving.proofs.headers.+type_end.Goals as goal
 pub returns-in-List : goal.returns-in-List
 returns-in-List m c =
     let t = c.args.table.now in
-    record { onward = omega arith; walks = type-more t c.args.position c.type-end.result _ (front_kept t c.args.position _ _ c.in-List.is c.in-Some.ensures.1) c.type-end.ensures.walks }
+    record { onward = omega arith; walks = type-more t c.args.position c.type_end.result _ (front_kept t c.args.position _ _ c.in-List.is c.in-Some.ensures.1) c.type_end.ensures.walks }
 
-pub returns-in-default : goal.returns-in-default
-returns-in-default m c =
+pub returns-in_default : goal.returns-in_default
+returns-in_default m c =
     let t = c.args.table.now in
     record {
       onward = omega arith;
-      walks = type-last t c.args.position (item (text_of t) c.in-Some.command) c.in-Some.ensures.1 (λ x e. no-list (text_of t) c.in-Some.command x c.in-default.not-List e);
+      walks = type-last t c.args.position (item (text_of t) c.in-Some.command) c.in-Some.ensures.1 (λ x e. no-list (text_of t) c.in-Some.command x c.in_default.not-List e);
     }
 
 pub returns-in-None : goal.returns-in-None

@@ -8,6 +8,6 @@ returns c =
     let t = c.args.table.now in
     record {
       onward = omega arith;
-      walks = nil-laid t c.args.names.now c.args.tape.now c.push.new.self c.args.position c.free-slot-slot.result c.type-end.result c.args.place (ident (text_of t) c.args.region)
-          c.free-slot-slot.ensures.slot c.push.ensures c.type-end.ensures.walks;
+      walks = nil-laid t c.args.names.now c.args.tape.now c.push.new.self c.args.position c.free_slot-slot.result c.type_end.result c.args.place (ident (text_of t) c.args.region)
+          c.free_slot-slot.ensures.slot c.push.ensures c.type_end.ensures.walks;
     }

@@ -11,8 +11,8 @@ block-returns-in-Let m c =
     let t = c.args.table.now in
     record {
       onward = omega (arith, c.right-value.ensures.onward, c.block.ensures.onward);
-      walks = let_laid t c.args.names.now c.with-variable-more.result c.args.tape.now c.right-value.new.tape c.block.new.tape c.args.position c.args.way (ident (text_of t) c.in-Let.name) c.right-value.result c.block.result
-          c.right-value.ensures.walks (c.with-variable-more.ensures t) c.block.ensures.walks (front_kept t c.args.position _ _ c.in-Let.is c.in-Some.ensures.1);
+      walks = let_laid t c.args.names.now c.with_variable-more.result c.args.tape.now c.right-value.new.tape c.block.new.tape c.args.position c.args.way (ident (text_of t) c.in-Let.name) c.right-value.result c.block.result
+          c.right-value.ensures.walks (c.with_variable-more.ensures t) c.block.ensures.walks (front_kept t c.args.position _ _ c.in-Let.is c.in-Some.ensures.1);
     }
 
 pub block-returns-in-Print : goal.block-returns-in-Print
@@ -33,12 +33,12 @@ block-returns-in-Last m c =
           (front_kept t c.args.position _ _ c.in-Last.is c.in-Some.ensures.1);
     }
 
-pub block-returns-in-default : goal.block-returns-in-default
-block-returns-in-default m c =
+pub block-returns-in_default : goal.block-returns-in_default
+block-returns-in_default m c =
     let t = c.args.table.now in
     record {
       onward = omega arith;
-      walks = λ F Γ b T rest st e h fits. absurd (no_block (text_of t) c.in-Some.command _ rest b c.in-default.not-Let c.in-default.not-Print c.in-default.not-Last (sym c.in-Some.ensures.1 ∙ e));
+      walks = λ F Γ b T rest st e h fits. absurd (no_block (text_of t) c.in-Some.command _ rest b c.in_default.not-Let c.in_default.not-Print c.in_default.not-Last (sym c.in-Some.ensures.1 ∙ e));
     }
 
 pub block-returns-in-None : goal.block-returns-in-None
@@ -50,8 +50,8 @@ choose-returns m c =
     record {
       onward = omega (arith, c.block-first.ensures.onward, c.block-last.ensures.onward);
       walks = choose_laid c.args.table.now c.args.names.now c.args.tape.now c.push.new.self c.block-middle.new.tape c.block.new.tape c.rewind.new.self c.push-2.new.self c.block-first.new.tape c.block-last.new.tape
-          c.args.position c.free-slot-slot.result c.args.place c.atom-known.result c.block-middle.result c.block.result c.block-first.result c.block-last.result
-          c.atom-known.ensures c.free-slot-slot.ensures.slot c.push.ensures c.block-middle.ensures.walks c.block.ensures.walks c.rewind.ensures c.push-2.ensures c.block-first.ensures.walks c.block-last.ensures.walks;
+          c.args.position c.free_slot-slot.result c.args.place c.atom-known.result c.block-middle.result c.block.result c.block-first.result c.block-last.result
+          c.atom-known.ensures c.free_slot-slot.ensures.slot c.push.ensures c.block-middle.ensures.walks c.block.ensures.walks c.rewind.ensures c.push-2.ensures c.block-first.ensures.walks c.block-last.ensures.walks;
     }
 
 pub open-returns : goal.open-returns
@@ -59,18 +59,18 @@ open-returns m c =
     let t = c.args.table.now in
     record {
       onward = omega (arith, c.block-2.ensures.onward);
-      walks = open_laid t c.args.names.now c.with-region-inner.result c.args.tape.now c.push.new.self c.block.new.tape c.rewind.new.self c.push-2.new.self c.block-2.new.tape
-          c.args.position c.free-slot-slot.result c.free-region-region.result c.args.place (ident (text_of t) c.args.name) c.block.result c.block-2.result
-          c.free-slot-slot.ensures.slot c.free-region-region.ensures.slot (c.with-region-inner.ensures t) c.push.ensures c.block.ensures.walks c.rewind.ensures c.push-2.ensures c.block-2.ensures.walks;
+      walks = open_laid t c.args.names.now c.with_region-inner.result c.args.tape.now c.push.new.self c.block.new.tape c.rewind.new.self c.push-2.new.self c.block-2.new.tape
+          c.args.position c.free_slot-slot.result c.free_region-region.result c.args.place (ident (text_of t) c.args.name) c.block.result c.block-2.result
+          c.free_slot-slot.ensures.slot c.free_region-region.ensures.slot (c.with_region-inner.ensures t) c.push.ensures c.block.ensures.walks c.rewind.ensures c.push-2.ensures c.block-2.ensures.walks;
     }
 
 pub split-returns : goal.split-returns
 split-returns m c =
     record {
-      onward = omega (arith, c.block-middle.ensures.onward, c.split-names-inner.ensures.onward, c.block-last.ensures.onward);
+      onward = omega (arith, c.block-middle.ensures.onward, c.split_names-inner.ensures.onward, c.block-last.ensures.onward);
       walks = split-laid c.args.table.now c.args.names.now c.args.tape.now c.push.new.self c.block-middle.new.tape c.block.new.tape c.rewind.new.self c.push-2.new.self c.block-first.new.tape c.block-last.new.tape
-          c.args.position c.free-slot-slot.result c.list-region-region.result c.args.place c.atom-known.result c.block-middle.result c.block.result c.block-first.result c.block-last.result c.split-names-inner.result
-          c.atom-known.ensures c.free-slot-slot.ensures.slot c.list-region-region.ensures c.push.ensures c.block-middle.ensures.walks c.split-names-inner.ensures.walks c.block.ensures.walks c.rewind.ensures c.push-2.ensures
+          c.args.position c.free_slot-slot.result c.list_region-region.result c.args.place c.atom-known.result c.block-middle.result c.block.result c.block-first.result c.block-last.result c.split_names-inner.result
+          c.atom-known.ensures c.free_slot-slot.ensures.slot c.list_region-region.ensures c.push.ensures c.block-middle.ensures.walks c.split_names-inner.ensures.walks c.block.ensures.walks c.rewind.ensures c.push-2.ensures
           c.block-first.ensures.walks c.block-last.ensures.walks;
     }
 
@@ -102,12 +102,12 @@ pub right-returns-in-Case : goal.right-returns-in-Case
 right-returns-in-Case m c =
     record { onward = c.split.ensures.onward; walks = c.split.ensures.walks (front_kept c.args.table.now c.args.position _ _ c.in-Case.is c.in-Some.ensures.1) }
 
-pub right-returns-in-default : goal.right-returns-in-default
-right-returns-in-default m c =
+pub right-returns-in_default : goal.right-returns-in_default
+right-returns-in_default m c =
     record {
       onward = c.copy.ensures.onward;
-      walks = right-else c.args.table.now c.args.names.now c.args.tape.now _ c.args.position c.copy.result c.in-Some.command c.in-default.not-Operate c.in-default.not-Nil c.in-default.not-Cons c.in-default.not-Call
-          c.in-default.not-If c.in-default.not-Region c.in-default.not-Case c.in-Some.ensures.1 c.copy.ensures.walks;
+      walks = right-else c.args.table.now c.args.names.now c.args.tape.now _ c.args.position c.copy.result c.in-Some.command c.in_default.not-Operate c.in_default.not-Nil c.in_default.not-Cons c.in_default.not-Call
+          c.in_default.not-If c.in_default.not-Region c.in_default.not-Case c.in-Some.ensures.1 c.copy.ensures.walks;
     }
 
 pub right-returns-in-None : goal.right-returns-in-None

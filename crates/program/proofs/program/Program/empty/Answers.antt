@@ -2,5 +2,5 @@
 use Rattle.std.proofs.Common.{inl}
 use Rattle.program.proofs.program.Program.empty.Goals as goal
 
-pub invariant-of-result : goal.invariant-of-result
-invariant-of-result c = (∣ inl c.new.ensures.count ∣₁, tt)
+pub invariant_of-result : goal.invariant_of-result
+invariant_of-result c = record { sound = ∣ inl c.new.ensures.count ∣₁ }

@@ -13,7 +13,7 @@ returns-in-Name c =
     record {
       tree = var (record { place = t.place; name = t.bytes });
       is = atom-by_is t _ _ (named t c.in-Name.is) refl;
-      told = λ after. ap (λ x. a_variable x ∷ after) c.as-name.ensures;
+      told = λ after. ap (λ x. a_variable x ∷ after) c.as_name.ensures;
     }
 
 pub returns-in-Some : goal.returns-in-Some
@@ -31,7 +31,7 @@ returns-in-None c =
     let t = token_of c.args.self in
     atom-by_is t _ _ (unnamed t (numeral_unnamed t c.in-Numeral.is)) (numbered t c.in-Numeral.is ∙ sym c.in-None.ensures)
 
-pub returns-in-default : goal.returns-in-default
-returns-in-default c =
+pub returns-in_default : goal.returns-in_default
+returns-in_default c =
     let t = token_of c.args.self in
-    atom-by_is t _ _ (unnamed t c.in-default.not-Name) (unnumbered t c.in-default.not-Numeral)
+    atom-by_is t _ _ (unnamed t c.in_default.not-Name) (unnumbered t c.in_default.not-Numeral)

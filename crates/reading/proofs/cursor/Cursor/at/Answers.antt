@@ -5,11 +5,11 @@ use Rattle.reading.proofs.Steps.{arrive}
 use Rattle.reading.proofs.Walks.{no-refusal}
 use Rattle.reading.proofs.cursor.Cursor.at.Goals as goal
 
-pub returns-in-err-token : goal.returns-in-err-token
-returns-in-err-token c =
-    absurd (no-refusal c.args.offset c.args.rest.now _ (token-here _ _ _ _ c.requires.reaches c.requires.short c.in-err-token.ensures) c.requires.passes)
+pub returns-in_err-token : goal.returns-in_err-token
+returns-in_err-token c =
+    absurd (no-refusal c.args.offset c.args.rest.now _ (token-here _ _ _ _ c.requires.reaches c.requires.short c.in_err-token.ensures) c.requires.passes)
 
 pub returns : goal.returns
 returns c =
-    let a = arrive _ _ _ c.requires (token-here _ _ _ _ c.requires.reaches c.requires.short c.in-ok-token.ensures) in
+    let a = arrive _ _ _ c.requires (token-here _ _ _ _ c.requires.reaches c.requires.short c.in_ok-token.ensures) in
     (a.0, refl, a.1)

@@ -8,10 +8,10 @@ use Rattle.reading.proofs.cursor.Cursor.behind.Goals as goal
 
 pub returns-in-Some : goal.returns-in-Some
 returns-in-Some c =
-    let e = MatchOption-at_some _ _ _ c.in-Some.is c.in-ok-cursor.ensures in
+    let e = MatchOption-at_some _ _ _ c.in-Some.is c.in_ok-cursor.ensures in
     (e.0, on-met c.args.kind c.args.word.now c.args.self c.in-Some.cursor give (refuse (end_of c.args.self) 6) e.1)
 
 pub returns-in-None : goal.returns-in-None
 returns-in-None c =
-    on-other c.args.kind c.args.word.now c.args.self give (refuse (end_of c.args.self) 6) (MatchOption-at_none _ _ c.in-None.is c.in-ok-cursor.ensures)
+    on-other c.args.kind c.args.word.now c.args.self give (refuse (end_of c.args.self) 6) (MatchOption-at_none _ _ c.in-None.is c.in_ok-cursor.ensures)
     ∙ refuse-is c.args.self c.requires.sound ∙ ap (λ f. Err (refused f)) (sym c.refused.ensures)

@@ -10,8 +10,8 @@ use Rattle.resolving.proofs.names.Names.free_region.Goals as goal
 pub returns : goal.returns
 returns c =
     let s = c.args.self.now in
-    let e = ap length c.regions-in.ensures.is in
+    let e = ap length c.regions_in.ensures.is in
     record {
       slot = λ t. e ∙ sym (length-map (take s.open s.regions) (bytes (text_of t)));
-      room = λ h. few-front s.open 8 s.regions c.regions-in.ensures.size (omega (arith, e));
+      room = λ h. few-front s.open 8 s.regions c.regions_in.ensures.size (omega (arith, e));
     }

@@ -10,8 +10,8 @@ use Rattle.resolving.proofs.names.Names.free_slot.Goals as goal
 pub returns : goal.returns
 returns c =
     let s = c.args.self.now in
-    let e = ap length c.variables-in.ensures.is in
+    let e = ap length c.variables_in.ensures.is in
     record {
       slot = λ t. e ∙ sym (length-map (take s.bound s.variables) (variable_of t));
-      room = λ h. few-front s.bound 32 s.variables c.variables-in.ensures.size (omega (arith, e));
+      room = λ h. few-front s.bound 32 s.variables c.variables_in.ensures.size (omega (arith, e));
     }

@@ -10,6 +10,6 @@ pub returns : goal.returns
 returns c =
     let s = c.args.self.now in
     let text = text_of c.args.table.now in
-    c.index-of.ensures ∙ ap (λ es. index (bytes text) c.bytes-of.result.now es) c.regions-in.ensures.is ∙
-    ap (λ n. index (bytes text) n (take s.open s.regions)) c.bytes-of.ensures ∙
+    c.index_of.ensures ∙ ap (λ es. index (bytes text) c.bytes_of.result.now es) c.regions_in.ensures.is ∙
+    ap (λ n. index (bytes text) n (take s.open s.regions)) c.bytes_of.ensures ∙
     sym (index-map (bytes text) (λ n. n) (bytes text c.args.name) (take s.open s.regions))

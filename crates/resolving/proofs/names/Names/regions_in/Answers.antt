@@ -8,6 +8,6 @@ returns c =
     let s = c.args.self.now in
     let e : 8 ≡ length s.regions = omega arith in
     record {
-      is = c.split-at.ensures.front ∙ ap (λ n. take n s.regions) (c.min.ensures ∙ ap (λ n. min s.open n) e) ∙ take_min s.open s.regions;
+      is = c.split_at.ensures.front ∙ ap (λ n. take n s.regions) (c.min.ensures ∙ ap (λ n. min s.open n) e) ∙ take_min s.open s.regions;
       size = sym e;
     }

@@ -12,6 +12,6 @@ returns c =
     let s = c.args.self.now in
     let t = c.args.table.now in
     let text = text_of t in
-    c.index-of.ensures ∙ ap (λ es. index (λ v. bytes text v.name) c.bytes-of.result.now es) c.variables-in.ensures.is ∙
-    ap (λ n. index (λ v. bytes text v.name) n (take s.bound s.variables)) c.bytes-of.ensures ∙
+    c.index_of.ensures ∙ ap (λ es. index (λ v. bytes text v.name) c.bytes_of.result.now es) c.variables_in.ensures.is ∙
+    ap (λ n. index (λ v. bytes text v.name) n (take s.bound s.variables)) c.bytes_of.ensures ∙
     sym (index-map (variable_of t) (λ v. v.name) (bytes text c.args.name) (take s.bound s.variables))

@@ -8,6 +8,6 @@ returns c =
     let s = c.args.self.now in
     let e : 32 ≡ length s.variables = omega arith in
     record {
-      is = c.split-at.ensures.front ∙ ap (λ n. take n s.variables) (c.min.ensures ∙ ap (λ n. min s.bound n) e) ∙ take_min s.bound s.variables;
+      is = c.split_at.ensures.front ∙ ap (λ n. take n s.variables) (c.min.ensures ∙ ap (λ n. min s.bound n) e) ∙ take_min s.bound s.variables;
       size = sym e;
     }

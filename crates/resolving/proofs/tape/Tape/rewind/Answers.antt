@@ -8,6 +8,6 @@ pub returns : goal.returns
 returns c before cs e k g =
     let s = c.args.self.now in
     record {
-      laid_more = set_back cs c.args.count s.count s.commands (laid before) (k ∙ e) (omega (arith, g.counted)) g.laid-more ∙ sym (append-nil (laid before));
+      laid_more = set_back cs c.args.count s.count s.commands (laid before) (k ∙ e) (omega (arith, g.counted)) g.laid_more ∙ sym (append-nil (laid before));
       counted = omega arith;
     }
