@@ -14,22 +14,22 @@ pub fill-requires : goal.fill-requires
 fill-requires c =
     let t = c.args.draft.table in
     ∥∥₁_map {B = (end : ℕ) × (s : Script) × (items t ≡ items_of s) × (checking end s ≡ Ok s) × WasRead s} c.args.draft.held
-    (λ p. (t.length, p.0, p.1, passes t.length p.0 (c.in-ok-verify.ensures p.0 p.1), p.2))
+    (λ p. (t.length, p.0, p.1, passes t.length p.0 (c.in_ok-verify.ensures p.0 p.1), p.2))
 
-pub returns-in-err-verify : goal.returns-in-err-verify
-returns-in-err-verify c =
-    let p = err_from_is_err_and c.from-residual.result c.from-residual.ensures.1 in
+pub returns-in_err-verify : goal.returns-in_err-verify
+returns-in_err-verify c =
+    let p = err_from_is_err_and c.from_residual.result c.from_residual.ensures.1 in
     record {
-      answer = carried-up c.args.draft.table c.from-residual.result _ _ p.1 p.2 c.in-err-verify.ensures;
-      holds = λ s e k. no-success c.from-residual.result _ p.1 k;
-      keeps = kept c.from-residual.result _;
+      answer = carried-up c.args.draft.table c.from_residual.result _ _ p.1 p.2 c.in_err-verify.ensures;
+      holds = λ s e k. no-success c.from_residual.result _ p.1 k;
+      keeps = kept c.from_residual.result _;
       law = passes_exactly_the_typed;
     }
 
 pub returns : goal.returns
 returns c = record {
-  answer = c.in-ok-verify.ensures;
-  holds = λ s e k. c.fill.ensures c.args.draft.table.length s e (passes c.args.draft.table.length s (c.in-ok-verify.ensures s e));
+  answer = c.in_ok-verify.ensures;
+  holds = λ s e k. c.fill.ensures c.args.draft.table.length s e (passes c.args.draft.table.length s (c.in_ok-verify.ensures s e));
   keeps = tt;
   law = passes_exactly_the_typed;
 }
