@@ -4,7 +4,6 @@ use Rattle.std.proofs.Common.{sym, ap, ◌∙◌, arith, ⊎_elim}
 use Rattle.std.proofs.lemmas.List.{take_more, length-take, length-drop, length-append, take-append-le, append_assoc, drop-append-le, take_at, drop_at, take-take, drop-take, drop-drop, length-take-le, ext_get_or, get_or-take, get_or-drop, get_or_append_left, get_or-append_right}
 use Rattle.std.proofs.lemmas.Bool.{cases_lt}
 use Rattle.regions.specs.Rules.{total}
-use Rattle.arena.specs.Counted.{length_split}
 use Rattle.arena.specs.Layout.{split}
 use Rattle.regions.specs.Model.{lengths, longer}
 

@@ -4,7 +4,6 @@ use Rattle.std.proofs.Common.{sym, ap, ◌∙◌, arith}
 use Rattle.std.proofs.lemmas.List.{length_push, length-set, length-take-le, get_or-take, get_or-drop, take-take}
 use Rattle.std.proofs.lemmas.Bool.{le-leb, lt-leb}
 use Rattle.regions.specs.declared.refusal.Refusal.TheVariants.{Denied, NoRegion, NoWord}
-use Rattle.regions.specs.Laws.{Countable}
 use Rattle.regions.specs.Model.{region, longer, may_open, open_answer, open_after, may_put, put_answer, put_after, get_answer, close_answer, close_after}
 use Rattle.regions.specs.Rules.{total, capacity, arena_rule}
 use Rattle.regions.proofs.Bounds.{and_true, lengths-at}

@@ -1,7 +1,7 @@
 -- Headers: the walk over their items gives the answers of the definitions, and the scope of the block.
-use Rattle.std.proofs.Common.{◌≡◌, ℕ, zero, suc, ◌<◌, ◌≤◌, List, [], ◌∷◌, ◌++◌, map, length, Ok, Err, Result, sym, refl, ap, ◌∙◌, append_assoc, append-nil, arith}
+use Rattle.std.proofs.Common.{◌≡◌, ℕ, zero, suc, ◌≤◌, List, [], ◌∷◌, ◌++◌, map, length, Ok, Err, Result, sym, refl, ap, ◌∙◌, append_assoc, append-nil, arith}
 use Rattle.language.specs.Verdict.{Refused}
-use Rattle.language.specs.Syntax.{Ident, Ty, Block, Param, Fun}
+use Rattle.language.specs.Syntax.{Ident, Param, Fun}
 use Rattle.language.specs.Types.{Name, RegionType, unplaced}
 use Rattle.language.specs.Scope.{Scope, Variable, names, with_variable, with_region, as_variable, region_scope, header_scope, empty_scope}
 use Rattle.language.specs.Checking.{◌>>=◌, ◌>>◌, known_type, new_region, new_variable, check_regions, check_params}

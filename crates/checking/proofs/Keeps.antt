@@ -1,5 +1,5 @@
 -- A scope that grew and is put back is the scope that it was.
-use Rattle.std.proofs.Common.{◌≡◌, ℕ, ◌≤◌, List, map, take, sym, refl, ap, ◌∙◌, arith, take-take}
+use Rattle.std.proofs.Common.{◌≡◌, ℕ, ◌≤◌, List, map, take, sym, ap, ◌∙◌, arith, take-take}
 use Rattle.language.specs.Types.{Name}
 use Rattle.language.specs.Scope.{Scope, Variable}
 use Rattle.draft.specs.declared.table.Table.{Table}

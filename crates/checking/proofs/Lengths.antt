@@ -1,5 +1,5 @@
 -- What follows a part is no longer than the part with it.
-use Rattle.std.proofs.Common.{ℕ, ◌≤◌, List, [], ◌∷◌, length, arith}
+use Rattle.std.proofs.Common.{◌≤◌, List, [], ◌∷◌, length, arith}
 use Rattle.language.specs.Syntax.{Ident, Ty, Atom, var, num, Right, atom, oper, nil, cons, call, test, region, split, Block, last, bind, print}
 use Rattle.draft.specs.Items.{Item, items_type, items_atom, items_each, items_handed, items_right, items_block}
 

@@ -1,15 +1,13 @@
 -- Atoms, types, regions and arguments: the walk over their items gives the answers of the definitions.
-use Rattle.std.proofs.Common.{◌≡◌, ℕ, suc, Bool, true, false, ◌&&◌, eqb, List, [], ◌∷◌, map, length, drop, Some, None, Ok, Err, Option, Result, sym, refl, ap, ◌∙◌, arith}
-use Rattle.lexing.specs.Tokens.{same_bytes}
+use Rattle.std.proofs.Common.{◌≡◌, ℕ, suc, List, [], ◌∷◌, map, length, drop, Some, None, Ok, Err, Option, Result, refl, ap, ◌∙◌, arith}
 use Rattle.language.specs.Verdict.{Refused}
-use Rattle.language.specs.Syntax.{Ident, Ty, Atom, var, num, Block, last, bind, print, Param, Fun, Script}
+use Rattle.language.specs.Syntax.{Ident, Ty, Atom, var, num, Block, last, bind, print, Param, Fun}
 use Rattle.language.specs.Types.{Name, RegionType, int, list, same_type, unplaced, replaced}
-use Rattle.language.specs.Scope.{Scope, find, find_function, names}
-use Rattle.language.specs.Checking.{◌>>=◌, ◌>>◌, ask, found, known_region, known_regions, known_type, atom_place, type_atom, need, need_all}
-use Rattle.draft.specs.Items.{Item, an_outcome, items_type, items_atom, items_each, items_handed, items_header_region, items_block, items_param, items_fun}
-use Rattle.scope.specs.Words.{row, word, declared, handed, of_words, type_at}
-use Rattle.scope.specs.Verdicts.{known}
-use Rattle.checking.specs.Walk.{Functions, walk_atom, walk_need, walk_type, parameters, outcome, result_type, walk_handed, argument, walk_arguments}
+use Rattle.language.specs.Scope.{Scope, names}
+use Rattle.language.specs.Checking.{◌>>=◌, ◌>>◌, ask, known_region, known_regions, known_type, atom_place, type_atom, need, need_all}
+use Rattle.draft.specs.Items.{Item, an_outcome, items_type, items_atom, items_each, items_handed, items_header_region, items_block, items_param}
+use Rattle.scope.specs.Words.{row, declared, handed, type_at}
+use Rattle.checking.specs.Walk.{walk_atom, walk_need, walk_type, parameters, outcome, result_type, walk_handed, argument, walk_arguments}
 
 -- an atom
 pub atom-told : (Γ : Scope) (a : Atom) (after : List Item) → walk_atom Γ (items_atom a after) ≡ (type_atom Γ a >>= (λ T. Ok (T, atom_place a, after)))

@@ -1,5 +1,5 @@
 -- The row of regions that a call hands over, from its front.
-use Rattle.std.proofs.Common.{◌≡◌, ℕ, suc, ◌+◌, List, [], ◌∷◌, length, drop, sym, refl, ap, ◌∙◌, add_comm, add-one, drop-drop}
+use Rattle.std.proofs.Common.{◌≡◌, ℕ, ◌+◌, List, ◌∷◌, length, drop, sym, ap, ◌∙◌, add_comm, add-one, drop-drop}
 use Rattle.language.specs.Types.{Name}
 use Rattle.draft.specs.Items.{Item}
 use Rattle.scope.specs.Words.{row, handed}

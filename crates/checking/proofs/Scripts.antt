@@ -3,11 +3,11 @@ use Rattle.std.proofs.Common.{◌≡◌, ℕ, zero, suc, ◌<◌, ◌≤◌, Boo
 use Rattle.lexing.specs.Tokens.{same_bytes}
 use Rattle.language.specs.Verdict.{Refused}
 use Rattle.language.specs.Syntax.{Ident, Ty, Atom, var, num, Right, atom, oper, nil, cons, call, test, region, split, Block, last, bind, print, Param, Fun, Script}
-use Rattle.language.specs.Types.{Name, RegionType, int, same_type, unplaced}
+use Rattle.language.specs.Types.{int, same_type, unplaced}
 use Rattle.language.specs.Scope.{Scope, find, find_function, header_scope, empty_scope}
-use Rattle.language.specs.Checking.{◌>>=◌, ◌>>◌, ask, last_place, type_block, check_header, check_headers, one_int, main_like, check_main, check_body, check_bodies, checking}
-use Rattle.draft.specs.Items.{Item, an_outcome, case_names, items_type, items_atom, items_each, items_handed, items_header_region, items_param, items_right, items_block, items_fun, items_of}
-use Rattle.scope.specs.Words.{row, declared, type_at}
+use Rattle.language.specs.Checking.{◌>>=◌, ◌>>◌, ask, last_place, type_block, check_headers, one_int, main_like, check_main, check_body, check_bodies, checking}
+use Rattle.draft.specs.Items.{Item, an_outcome, case_names, items_type, items_atom, items_each, items_handed, items_header_region, items_param, items_right, items_block, items_of}
+use Rattle.scope.specs.Words.{type_at}
 use Rattle.checking.specs.Walk.{Functions, walk_header, behind_header, next_function, new_function, walk_headers, parameters, result_type, one_int_items, main_items, walk_main, walk_block, walk_body, walk_bodies, walk_script}
 use Rattle.checking.proofs.Parts.{type-at_told, names-length, header, behind-regions, header_declared, header_parameters, header_result, typed-items, needing}
 use Rattle.checking.proofs.Lengths.{longer-type, longer_block}

@@ -1,5 +1,5 @@
 -- Questions one after the other: where the parts agree, so does the whole.
-use Rattle.std.proofs.Common.{◌≡◌, ℕ, Bool, true, false, List, Ok, Err, Result, sym, refl, ap, ◌∙◌}
+use Rattle.std.proofs.Common.{◌≡◌, ℕ, Bool, true, false, Ok, Err, Result, refl, ap, ◌∙◌}
 use Rattle.language.specs.Verdict.{Refused}
 use Rattle.language.specs.Types.{Name, RegionType, same_type}
 use Rattle.language.specs.Checking.{◌>>=◌, ◌>>◌, ask}

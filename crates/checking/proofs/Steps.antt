@@ -1,5 +1,5 @@
 -- The steps of the walk over a block.
-use Rattle.std.proofs.Common.{◌≡◌, ℕ, zero, suc, ◌-◌, ◌<◌, Bool, not, ltb, List, length, is_some, Option, sym, refl, ap, ◌∙◌, arith}
+use Rattle.std.proofs.Common.{◌≡◌, ℕ, zero, suc, ◌-◌, ◌<◌, Bool, not, ltb, List, length, is_some, Option, sym, ap, ◌∙◌, arith}
 use Rattle.language.specs.Syntax.{Ident}
 use Rattle.language.specs.Checking.{◌>>◌, ask}
 use Rattle.language.specs.Scope.{Scope, find}

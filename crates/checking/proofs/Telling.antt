@@ -1,14 +1,14 @@
 -- The walk over the items of a block gives the answer of the definitions for the block.
-use Rattle.std.proofs.Common.{◌≡◌, ℕ, zero, suc, ◌≤◌, Bool, true, false, not, ◌&&◌, eqb, leb, List, [], ◌∷◌, map, length, drop, Some, None, Ok, Err, Option, Result, sym, refl, ap, ◌∙◌, arith, eqb-true}
+use Rattle.std.proofs.Common.{◌≡◌, ℕ, zero, suc, ◌≤◌, Bool, true, false, not, ◌&&◌, eqb, leb, List, ◌∷◌, length, drop, Some, None, Ok, Option, Result, sym, refl, ap, ◌∙◌, arith, eqb-true}
 use Rattle.language.specs.Verdict.{Refused}
-use Rattle.language.specs.Syntax.{Ident, Ty, Atom, var, num, Right, atom, oper, nil, cons, call, test, region, split, Block, last, bind, print, Param, Fun, Script}
-use Rattle.language.specs.Types.{Name, RegionType, int, list, same_type, mentions, depth, unplaced, replaced}
+use Rattle.language.specs.Syntax.{Ident, Atom, var, num, Right, atom, oper, nil, cons, call, test, region, split, Block, last, bind, print, Fun, Script}
+use Rattle.language.specs.Types.{Name, RegionType, int, list, same_type, mentions, depth, replaced}
 use Rattle.language.specs.Scope.{Scope, find, find_function, names, with_variable, with_region}
 use Rattle.language.specs.Typing.{at_call, needed}
 use Rattle.language.specs.Checking.{◌>>=◌, ◌>>◌, ask, found, known_region, known_regions, known_type, new_region, new_variable, atom_place, last_place, type_atom, need, need_all, element, type_right, type_block}
 use Rattle.draft.specs.Items.{Item, case_names, items_type, items_atom, items_each, items_handed, items_right, items_block}
 use Rattle.scope.specs.Words.{row, declared, handed, type_at}
-use Rattle.checking.specs.Walk.{Functions, walk_atom, walk_need, parameters, result_type, walk_handed, argument, walk_arguments, called, walk_call, walk_right, walk_block, walk_second}
+use Rattle.checking.specs.Walk.{Functions, walk_atom, walk_need, parameters, result_type, walk_handed, argument, walk_arguments, called, walk_right, walk_block}
 use Rattle.checking.proofs.Sequences.{pair, triple, bound, put, knowing, going, either_type, two, tested, itself}
 use Rattle.checking.proofs.Parts.{atom-told, need-told, type-at_told, type-told, known-type_is, no-handed, handed-told, names-length, behind-handed, walk-handed_stops, walk-handed_told, no-argument, arguments-length, header, header_declared, header_parameters, header_result, typed-items, typed-length, arguments-told}
 use Rattle.checking.proofs.Lengths.{longer-atom, longer_right, longer_block}

@@ -8,7 +8,7 @@ use Rattle.draft.specs.declared.command.Name.{Name as Stands}
 use Rattle.language.specs.Syntax.{Ident}
 use Rattle.scope.specs.declared.state.State.{State}
 use Rattle.scope.specs.declared.types.Sort.{Sort}
-use Rattle.scope.specs.Words.{bytes, type_of}
+use Rattle.scope.specs.Words.{type_of}
 use Rattle.scope.specs.Entries.{Grown, scope_of}
 use Rattle.checking.specs.declared.part.Typed.{Typed}
 use Rattle.checking.specs.declared.part.Heading.{Heading}

@@ -1,13 +1,12 @@
 -- Checking told over items: the questions of a script's parts, in their order, put to the items that tell the parts.
-use Rattle.std.specs.Prelude.{◌≡◌, ℕ, zero, suc, Bool, true, false, not, ◌&&◌, List, [], ◌∷◌, ◌++◌, map, length, take, drop, is_some, Some, None, Ok, Err, codes, Option, Result, ◌==◌, nat_le, nat_lt}
+use Rattle.std.specs.Prelude.{ℕ, zero, suc, Bool, false, not, ◌&&◌, List, [], ◌∷◌, ◌++◌, length, drop, is_some, Some, None, Ok, Err, codes, Option, Result, ◌==◌, nat_le, nat_lt}
 use Rattle.language.specs.Verdict.{Refused}
 use Rattle.language.specs.Syntax.{Ident, var}
 use Rattle.language.specs.Types.{Name, RegionType, int, list, same_type, mentions, depth, replaced}
 use Rattle.language.specs.Scope.{Scope, find, with_variable, with_region, empty_scope}
 use Rattle.language.specs.Checking.{◌>>=◌, ◌>>◌, ask, found, new_region, new_variable, type_atom, element}
-use Rattle.draft.specs.declared.table.Table.{Table}
-use Rattle.draft.specs.Items.{Item, a_function, a_header_region, a_parameter, an_outcome, an_int, a_list, a_let, a_print, a_last, a_variable, a_number, an_operation, a_nil, a_cons, a_call, a_handed, an_if, a_region, a_case, case_names, items}
-use Rattle.scope.specs.Words.{row, declared, handed, type_at, type_of}
+use Rattle.draft.specs.Items.{Item, a_function, a_header_region, a_parameter, an_outcome, an_int, a_list, a_let, a_print, a_last, a_variable, a_number, an_operation, a_nil, a_cons, a_call, a_handed, an_if, a_region, a_case, case_names}
+use Rattle.scope.specs.Words.{row, declared, handed, type_at}
 use Rattle.scope.specs.Verdicts.{known}
 
 -- the answer for items that tell no such part: no script has them

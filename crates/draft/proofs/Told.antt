@@ -1,5 +1,5 @@
 -- What a table says after one command more, and after a text was copied into it.
-use Rattle.std.proofs.Common.{◌≡◌, ℕ, suc, ◌+◌, ◌<◌, List, [], ◌∷◌, ◌++◌, map, length, take, set, sym, refl, ap, ◌∙◌, add-one, take-suc-set}
+use Rattle.std.proofs.Common.{◌≡◌, ℕ, ◌+◌, ◌<◌, List, [], ◌∷◌, ◌++◌, map, length, take, set, ap, ◌∙◌, add-one, take-suc-set}
 use mathlib.Core.List.{map-append}
 use lib.Seq.{take-append_seam}
 

@@ -1,5 +1,5 @@
 -- What a draft's commands say: the items of a script, each with its names as the text has them, and the script that they are the items of.
-use Rattle.std.specs.Prelude.{◌≡◌, ℕ, List, [], ◌∷◌, map, take, drop, ℤ}
+use Rattle.std.specs.Prelude.{ℕ, List, [], ◌∷◌, map, take, drop, ℤ}
 use Rattle.language.specs.Syntax.{Ident, Ty, int, list, Atom, var, num, Op, add, sub, mul, div, rem, eq, lt, Right, atom, oper, nil, cons, call, test, region, split, Block, last, bind, print, Param, Fun, Script}
 use Rattle.draft.specs.declared.command.Name.{Name}
 use Rattle.draft.specs.declared.command.Operator.{Operator}

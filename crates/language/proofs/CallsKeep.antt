@@ -1,5 +1,5 @@
 -- A refusal changes no session, and a resume keeps the length of its list.
-use Rattle.std.proofs.Common.{◌≡◌, ℕ, ◌+◌, ◌-◌, Bool, true, false, leb, List, length, ℤ, Some, None, Option, sym, refl, ap, ◌∙◌, arith, length-append, length-drop}
+use Rattle.std.proofs.Common.{◌≡◌, ℕ, ◌+◌, Bool, true, false, leb, List, length, ℤ, Some, None, Option, sym, refl, ap, ◌∙◌, arith, length-append, length-drop}
 use Rattle.regions.specs.Model.{Rule}
 use Rattle.language.specs.Syntax.{Script}
 use Rattle.language.specs.Plain.{started}

@@ -5,7 +5,7 @@ use Rattle.lexing.specs.declared.token.Kind.TheVariants.{Name, Keyword, Numeral,
 use Rattle.lexing.specs.Tokens.{Lexeme, same_bytes}
 use Rattle.lexing.specs.Numbers.{kind_number}
 use Rattle.language.specs.Syntax.{Ident, Ty, int, list, Atom, var, num, Op, add, sub, mul, div, rem, eq, lt, Right, atom, oper, nil, cons, call, test, region, split, Block, last, bind, print, Param, Fun}
-use Rattle.language.specs.Spelling.{Spelled, word, word_at, block_at, list_at, name, number, mark, Is, Fits, Matches, more, op_word, spell_name, spell_atom, spell_commas, spell_regions, spell_elements, spell_type, spell_right, spell_inside, spell_block, spell_param, spell_fun, spell}
+use Rattle.language.specs.Spelling.{Spelled, word, word_at, block_at, list_at, name, number, mark, Is, Fits, Matches, more, op_word, spell_name, spell_atom, spell_commas, spell_regions, spell_elements, spell_type, spell_right, spell_inside, spell_block, spell_param, spell_fun}
 use Rattle.language.specs.Nesting.{shallows}
 use Rattle.language.specs.Reading.{Reader, refuse, then, give, starts, on, is_kind, name_in, number_in, atom_in, one, name_of, atom_of, before, commas, bracketed, regions, elements, list_of, type_of, operands, nil_of, cons_of, call_of, if_of, region_of, case_of, right_of, let_of, print_of, inside, block_of, param_of, fun_of}
 use Rattle.language.proofs.Fitting.{same-is, tests, starts-of, starts-self, shallows-first}

@@ -4,7 +4,7 @@ use Rattle.std.proofs.lemmas.Bool.Decides.{nat_tests}
 use Rattle.std.specs.List.{AllByRecursion as All}
 use Rattle.lexing.specs.Tokens.{same_bytes}
 use Rattle.language.specs.Syntax.{Ident, Ty, Atom, Right, Block, Param, Fun, Script}
-use Rattle.language.specs.Types.{Name, RegionType, int, list, unplaced, deepest}
+use Rattle.language.specs.Types.{Name, RegionType, int, unplaced, deepest}
 use Rattle.language.specs.Scope.{most_functions, most_params, most_variables, Scope, find_region, find_function, with_variable, header_scope}
 use Rattle.language.specs.Typing.{KnownRegion, Within, NewRegion, NewVariable, TypedAtom, variable_has, numeral_has, TypedAtoms, no_atoms, more_atoms, TypedRight, atom_has, oper_has, nil_has, cons_has, call_has, test_has, region_has, split_has, TypedBlock, last_has, bind_has, print_has, NewRegions, no_new_regions, more_new_regions, NewParams, no_new_params, more_new_params, TypedHeader, TypedHeaders, no_headers, more_headers, TypedBody, Main, TypedScript}
 use Rattle.language.specs.Checking.{known_region, known_regions, known_type, new_region, new_variable, atom_place, last_place, type_atom, need, need_all, type_right, type_block, check_regions, check_params, check_header, check_headers, one_int, main_like, check_body, check_bodies, checking}

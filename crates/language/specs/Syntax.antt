@@ -1,5 +1,5 @@
 -- The script as a tree: names and numbers as the text has them, with the places that refusals and endings speak of.
-use Rattle.std.specs.Prelude.{ℕ, List, [], ◌∷◌, ℤ}
+use Rattle.std.specs.Prelude.{ℕ, List, ℤ}
 
 -- a name where it stands in the text
 pub record Ident : Type 0 where

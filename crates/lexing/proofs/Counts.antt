@@ -1,8 +1,6 @@
 -- Counting the tokens of a text one by one: what is counted so far, joined with what is left.
-use Rattle.std.proofs.Common.{◌≡◌, ℕ, zero, suc, ◌+◌, ◌-◌, ◌<◌, ◌≤◌, Bool, true, false, leb, List, [], ◌∷◌, length, Ok, Err, Result, sym, refl, ap, ◌∙◌, subst, add-zero, arith, le-leb}
-use borrow.Author.Tests.{both_ways, lt-leb}
-use Rattle.lexing.specs.declared.token.Kind.{Kind}
-use Rattle.lexing.specs.declared.fault.Question.{Question}
+use Rattle.std.proofs.Common.{◌≡◌, ℕ, zero, suc, ◌+◌, ◌-◌, ◌<◌, ◌≤◌, Bool, true, false, List, [], length, Ok, Err, Result, sym, refl, ap, ◌∙◌, add-zero, arith, le-leb}
+use borrow.Author.Tests.{lt-leb}
 use Rattle.lexing.specs.declared.fault.Question.TheVariants.{TextLength, TokenCount}
 use Rattle.lexing.specs.Tokens.{Lexeme, Refusal, token_at}
 use Rattle.lexing.specs.Texts.{before, at_end, behind, from_one, tokens_from, tokens_of}

@@ -4,7 +4,7 @@ use borrow.Author.Tests.{lt-leb, both_ways}
 use Rattle.lexing.specs.Classes.{digit, minus}
 use Rattle.std.proofs.lemmas.Slice.{between_to_end}
 use Rattle.lexing.specs.Runs.{every}
-use Rattle.lexing.specs.Numerals.{decimal, digits, bound, with_sign, signed_32, only, meaning, number_of}
+use Rattle.lexing.specs.Numerals.{decimal, bound, with_sign, signed_32, only, meaning, number_of}
 
 -- what digits mean behind a number that was read so far
 abbrev pub going : Bool → ℕ → List ℕ → Option ℤ

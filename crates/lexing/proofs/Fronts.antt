@@ -1,5 +1,5 @@
 -- The longest front that passes a test, as a loop finds it byte by byte.
-use Rattle.std.proofs.Common.{◌≡◌, ℕ, suc, ◌+◌, ◌<◌, ◌≤◌, Bool, true, false, List, [], ◌∷◌, length, get_or, take, drop, sym, refl, ap, ◌∙◌, add-one, arith, length-drop, drop-cons}
+use Rattle.std.proofs.Common.{◌≡◌, ℕ, suc, ◌+◌, ◌<◌, ◌≤◌, Bool, true, false, List, [], ◌∷◌, length, get_or, drop, sym, refl, ap, ◌∙◌, add-one, arith, length-drop, drop-cons}
 use Rattle.lexing.specs.Runs.{run}
 
 unroll : (f : ℕ → Bool) (xs : List ℕ) (n : ℕ) → n < length xs → run f (drop n xs) ≡ elim (f (get_or xs n 0)) [ true ↦ suc (run f (drop (n + 1) xs)) | false ↦ 0 ]

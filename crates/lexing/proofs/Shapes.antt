@@ -1,12 +1,12 @@
 -- The kind and the width of a token, from what a look at the first bytes found.
-use Rattle.std.proofs.Common.{◌≡◌, ℕ, suc, ◌+◌, ◌-◌, ◌*◌, ◌<◌, ◌≤◌, Bool, true, false, List, [], ◌∷◌, length, get_or, take, drop, Ok, Err, Result, sym, refl, ap, ◌∙◌, one-add, arith}
+use Rattle.std.proofs.Common.{◌≡◌, ℕ, suc, ◌+◌, ◌-◌, Bool, true, false, List, [], ◌∷◌, length, get_or, take, drop, Ok, Err, Result, sym, refl, ap, ◌∙◌, one-add, arith}
 use borrow.Author.Tests.{both_ways}
 use Rattle.std.proofs.lemmas.Slice.{between_to_end}
 use Rattle.lexing.specs.declared.token.Kind.{Kind}
 use Rattle.lexing.specs.declared.token.Kind.TheVariants.{Mark}
 use Rattle.lexing.specs.declared.fault.Question.{Question}
 use Rattle.lexing.specs.declared.fault.Question.TheVariants.{FirstByte}
-use Rattle.lexing.specs.Classes.{digit, minus, letter, mark, word_byte}
+use Rattle.lexing.specs.Classes.{digit, minus, letter, mark}
 use Rattle.lexing.specs.Runs.{run, begins}
 use Rattle.lexing.specs.Tokens.{numeral_begins, numeral_width, width, kind_of, word_kind, numeral_kind}
 

@@ -1,16 +1,15 @@
 -- The walk over a text: each token takes a byte at least, so the walk ends, and what a loop has counted joins what is left.
-use Rattle.std.proofs.Common.{◌≡◌, ℕ, zero, suc, ◌+◌, ◌-◌, ◌*◌, ◌<◌, ◌≤◌, Bool, true, false, ◌||◌, eqb, List, [], ◌∷◌, length, get_or, take, drop, Ok, Err, Result, sym, refl, ap, ◌∙◌, subst, add-one, arith, length-drop, le-leb}
+use Rattle.std.proofs.Common.{◌≡◌, ℕ, suc, ◌+◌, ◌-◌, ◌<◌, ◌≤◌, Bool, true, false, ◌||◌, eqb, List, [], ◌∷◌, length, Ok, Err, Result, sym, refl, ap, ◌∙◌, subst, arith, length-drop}
 use Rattle.std.proofs.lemmas.List.{length-take-le}
-use borrow.Author.Tests.{both_ways, lt-leb}
+use borrow.Author.Tests.{both_ways}
 use Rattle.lexing.specs.declared.token.Kind.{Kind}
 use Rattle.lexing.specs.declared.token.Kind.TheVariants.{End, Name, Keyword, Numeral, Mark}
 use Rattle.lexing.specs.declared.fault.Question.{Question}
-use Rattle.lexing.specs.declared.fault.Question.TheVariants.{TextLength, TokenCount, FirstByte}
+use Rattle.lexing.specs.declared.fault.Question.TheVariants.{FirstByte}
 use Rattle.lexing.specs.Classes.{class_of, blank, letter, digit, minus, mark, word_byte}
 use Rattle.lexing.specs.Runs.{run, begins}
-use Rattle.lexing.specs.Tokens.{Lexeme, Refusal, width, kind_of, word_kind, numeral_kind, numeral_begins, numeral_width, unblanked, token_at}
-use Rattle.lexing.specs.Texts.{before, at_end, behind, from_one, tokens_from, tokens_of}
-use Rattle.lexing.specs.Answers.{counted}
+use Rattle.lexing.specs.Tokens.{Lexeme, Refusal, width, kind_of, numeral_begins, numeral_width, unblanked, token_at}
+use Rattle.lexing.specs.Texts.{at_end, behind}
 use Rattle.lexing.proofs.Fronts.{run-within}
 use Rattle.lexing.proofs.Offsets.{answer, token-at_is}
 

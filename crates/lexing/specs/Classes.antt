@@ -1,5 +1,5 @@
 -- The class of a byte: 1 blank, 2 letter, 3 digit, 4 underscore, 5 mark, 6 minus, 0 any other.
-use Rattle.std.specs.Prelude.{ℕ, Bool, true, false, cond, ◌&&◌, ◌||◌, List, [], ◌∷◌, codes, ◌==◌, nat_le}
+use Rattle.std.specs.Prelude.{ℕ, Bool, false, cond, ◌&&◌, ◌||◌, List, [], ◌∷◌, codes, ◌==◌, nat_le}
 
 -- whether a number is in a list
 abbrev pub among : ℕ → List ℕ → Bool

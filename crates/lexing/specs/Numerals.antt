@@ -1,5 +1,5 @@
 -- Numerals, and the numbers that they mean.
-use Rattle.std.specs.Prelude.{ℕ, ◌+◌, ◌-◌, ◌*◌, Bool, true, false, ◌&&◌, List, [], ◌∷◌, ℤ, pos, neg_ℤ, Some, None, Option, nat_le}
+use Rattle.std.specs.Prelude.{ℕ, ◌+◌, ◌-◌, ◌*◌, Bool, true, false, List, [], ◌∷◌, ℤ, pos, neg_ℤ, Some, None, Option, nat_le}
 use Rattle.lexing.specs.Classes.{digit, minus}
 use Rattle.lexing.specs.Runs.{every}
 

@@ -1,5 +1,5 @@
 -- The longest front of a list whose elements all pass a test.
-use Rattle.std.specs.Prelude.{◌≡◌, ℕ, suc, Bool, true, false, ◌&&◌, List, [], ◌∷◌}
+use Rattle.std.specs.Prelude.{ℕ, suc, Bool, true, false, ◌&&◌, List, [], ◌∷◌}
 
 -- how many elements at the front pass the test, one after the other
 abbrev pub run : (ℕ → Bool) → List ℕ → ℕ

@@ -2,7 +2,6 @@
 use Rattle.std.specs.Prelude.{ℕ, zero, suc, ◌+◌, Bool, true, false, List, [], ◌∷◌, length, Ok, Err, Result, nat_le}
 use Rattle.lexing.specs.declared.token.Kind.{Kind}
 use Rattle.lexing.specs.declared.token.Kind.TheVariants.{End, Name, Keyword, Numeral, Mark}
-use Rattle.lexing.specs.declared.fault.Question.{Question}
 use Rattle.lexing.specs.declared.fault.Question.TheVariants.{TextLength, TokenCount}
 use Rattle.lexing.specs.Tokens.{Lexeme, Refusal, token_at}
 

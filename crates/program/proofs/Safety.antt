@@ -1,30 +1,29 @@
 -- Every script that passes checking is resolved to what is safe.
-use Rattle.std.proofs.Common.{◌≡◌, ℕ, ◌+◌, ◌<◌, ◌≤◌, Bool, true, false, ◌&&◌, ltb, List, [], ◌∷◌, ◌++◌, length, Some, Ok, codes, sym, refl, ap, ◌∙◌, subst, add-zero, add_assoc, arith, length-append, lt-ltb, eq-eqb, le-leb}
+use Rattle.std.proofs.Common.{◌≡◌, ℕ, ◌+◌, ◌<◌, ◌≤◌, true, false, ltb, List, [], ◌∷◌, ◌++◌, length, codes, sym, refl, ap, ◌∙◌, subst, add-zero, arith, length-append, lt-ltb, eq-eqb, le-leb}
 use Rattle.std.specs.List.{ContainsAt as Has, AllByRecursion as All}
 use Rattle.std.proofs.lemmas.List.{length-map}
 use Rattle.std.proofs.ByRecursion.{all-has, all_has_itself}
-use Rattle.language.specs.Syntax.{Ident, Atom, var, num, Right, atom, oper, nil, cons, call, test, region, split, Block, last, bind, print, Fun, Script}
+use Rattle.language.specs.Syntax.{Ident, Atom, Right, atom, oper, nil, cons, call, test, region, split, Block, last, bind, print, Fun, Script}
 use Rattle.language.specs.Types.{Name, RegionType, int, list, unplaced, mentions}
-use Rattle.language.specs.Scope.{Scope, find_region, with_variable, with_region, header_scope}
-use Rattle.language.specs.Typing.{KnownRegion, Within, NewVariable, TypedAtom, variable_has, numeral_has, TypedAtoms, no_atoms, more_atoms, TypedRight, atom_has, oper_has, nil_has, cons_has, call_has, test_has, region_has, split_has, TypedBlock, last_has, bind_has, print_has, TypedScript}
+use Rattle.language.specs.Scope.{Scope, find_region, with_variable, header_scope}
+use Rattle.language.specs.Typing.{KnownRegion, Within, TypedAtom, variable_has, numeral_has, TypedAtoms, no_atoms, more_atoms, TypedRight, atom_has, oper_has, cons_has, call_has, test_has, region_has, split_has, TypedBlock, last_has, bind_has, print_has, TypedScript}
 use Rattle.language.specs.TypingLaws.{Reached, whole_body, behind_let, behind_print, test_first, test_second, in_region, case_first, case_second}
-use Rattle.language.specs.Checking.{type_atom, type_right, checking}
+use Rattle.language.specs.Checking.{type_atom, type_right}
 use Rattle.language.proofs.Answered.{some_is, and_is, and_says}
-use Rattle.language.proofs.Names.{same-bytes_refl, both_hold}
+use Rattle.language.proofs.Names.{same-bytes_refl}
 use Rattle.language.proofs.WellTyped.{if_true, atom-says, right_says}
 use Rattle.language.proofs.Passing.{passed_is, length-needed}
 use Rattle.language.proofs.InScope.{types_stay_in_scope}
 use Rattle.language.proofs.Limits.{scopes_keep_limits}
-use Rattle.program.specs.declared.command.Operand.{Operand}
 use Rattle.program.specs.declared.command.Way.{Way}
 use Rattle.program.specs.declared.command.Way.TheVariants.{Return, Leave}
 use Rattle.program.specs.declared.command.Command.{Command}
-use Rattle.program.specs.declared.command.Command.TheVariants.{Hand, Argument, Case, If, Open}
+use Rattle.program.specs.declared.command.Command.TheVariants.{Hand, Case}
 use Rattle.program.specs.declared.command.Function.{Function}
-use Rattle.program.specs.Compiled.{region_slot, function_index, free_slot, operand, type_in, outermost, elements, right_size, block_size, handed, arguments, leaving, compiled_right, compiled_block, compiled_from, compiled, listed_from, listed, main_index}
+use Rattle.program.specs.Compiled.{region_slot, free_slot, operand, type_in, outermost, elements, right_size, block_size, handed, arguments, leaving, compiled_right, compiled_block, compiled_from, compiled, listed_from, listed, main_index}
 use Rattle.program.specs.Safe.{safe_operand, ahead, safe_way, safe_command, safe_from, safe_functions, safe_main, PassingIsSafe}
 use Rattle.program.proofs.Sizes.{right_length, block_length, block-some, bodies-size, from_length}
-use Rattle.program.proofs.Found.{index-found, found_all, Listed, listed_found}
+use Rattle.program.proofs.Found.{index-found, found_all, listed_found}
 
 -- one part behind the other
 safe_join : (G : List Function) (total at n : ℕ) (xs ys : List Command) → length xs ≡ n → safe_from G total at xs ≡ true → safe_from G total (at + n) ys ≡ true → safe_from G total at (xs ++ ys) ≡ true

@@ -1,12 +1,11 @@
 -- As many commands as the sizes say, and at least one for each block.
-use Rattle.std.proofs.Common.{◌≡◌, ℕ, ◌+◌, ◌<◌, ◌≤◌, true, false, List, [], ◌∷◌, ◌++◌, length, refl, ap, ◌∙◌, arith, length-append}
+use Rattle.std.proofs.Common.{◌≡◌, ℕ, ◌+◌, ◌<◌, true, false, List, [], ◌∷◌, ◌++◌, length, refl, arith, length-append}
 use Rattle.std.proofs.lemmas.List.{length-map}
-use Rattle.language.specs.Syntax.{Ident, Atom, Right, atom, oper, nil, cons, call, test, region, split, Block, last, bind, print, Fun, Script}
+use Rattle.language.specs.Syntax.{Right, atom, oper, nil, cons, call, test, region, split, Block, last, bind, print, Fun, Script}
 use Rattle.language.specs.Scope.{Scope, with_variable, with_region, header_scope}
 use Rattle.language.specs.Checking.{type_right}
 use Rattle.program.specs.declared.command.Way.{Way}
 use Rattle.program.specs.declared.command.Way.TheVariants.{Return}
-use Rattle.program.specs.declared.command.Command.{Command}
 use Rattle.program.specs.declared.command.Command.TheVariants.{Hand, Argument}
 use Rattle.program.specs.Compiled.{region_slot, operand, type_in, right_size, block_size, split_scope, handed, arguments, leaving, compiled_right, compiled_block, compiled_from}
 

@@ -3,7 +3,7 @@
 use Rattle.std.specs.Prelude.{ℕ, suc, ◌+◌, Bool, true, false, List, [], ◌∷◌, ◌++◌, map, length, Ok, Err, codes, Result}
 use Rattle.lexing.specs.Tokens.{same_bytes}
 use Rattle.language.specs.Verdict.{Refused}
-use Rattle.language.specs.Syntax.{Ident, Ty, Atom, var, num, Op, add, sub, mul, div, rem, eq, lt, Right, atom, oper, nil, cons, call, test, region, split, Block, last, bind, print, Fun, Script}
+use Rattle.language.specs.Syntax.{Ident, Atom, var, num, Op, add, sub, mul, div, rem, eq, lt, Right, atom, oper, nil, cons, call, test, region, split, Block, last, bind, print, Fun, Script}
 use Rattle.language.specs.Types.{Name, RegionType, int, list}
 use Rattle.language.specs.Scope.{Scope, with_variable, with_region, header_scope}
 use Rattle.language.specs.Checking.{type_atom, type_right}

@@ -1,5 +1,5 @@
 -- A script whose functions sum a list in a region that they are handed, and the commands that it is resolved to.
-use Rattle.std.specs.Prelude.{◌≡◌, ℕ, true, false, List, [], ◌∷◌, pos, Ok, Err, codes}
+use Rattle.std.specs.Prelude.{◌≡◌, true, false, List, [], ◌∷◌, pos, Ok, Err, codes}
 use Prim.Native.String.{String}
 use Rattle.language.specs.Syntax.{Script}
 use Rattle.language.specs.Reading.{reading}
@@ -8,7 +8,6 @@ use Rattle.program.specs.declared.command.Operand.TheVariants.{Slot, Number}
 use Rattle.program.specs.declared.command.Way.TheVariants.{Return, Leave}
 use Rattle.program.specs.declared.command.Command.TheVariants.{Operate, Nil, Cons, Call, Hand, Argument, Open, Case, Print, Finish}
 use Rattle.program.specs.declared.command.Command.{Command}
-use Rattle.program.specs.declared.command.Function.{Function}
 use Rattle.program.specs.Compiled.{compiled, listed, main_index}
 
 abbrev pub sum_text : String

@@ -1,5 +1,5 @@
 -- The parts of the grammar with what is read first in front.
-use Rattle.std.proofs.Common.{◌≡◌, ℕ, zero, suc, ◌-◌, ◌<◌, true, false, List, [], ◌∷◌, length, Ok, Err, codes, sym, refl, ap, ◌∙◌, arith}
+use Rattle.std.proofs.Common.{◌≡◌, ℕ, zero, suc, ◌-◌, ◌<◌, false, List, [], ◌∷◌, Ok, Err, codes, sym, refl, ap, ◌∙◌, arith}
 use Rattle.lexing.specs.declared.token.Kind.TheVariants.{Keyword, Mark}
 use Rattle.lexing.specs.Tokens.{Lexeme}
 use Rattle.language.specs.Nesting.{most_lists}

@@ -1,8 +1,8 @@
 -- A right side by the form that its first token begins.
-use Rattle.std.proofs.Common.{◌≡◌, ℕ, Bool, true, false, List, [], ◌∷◌, Some, None, codes, Option, sym, refl, ap, ◌∙◌}
+use Rattle.std.proofs.Common.{◌≡◌, ℕ, Bool, true, false, List, Some, None, codes, Option, refl, ap, ◌∙◌}
 use mathlib.Core.Path.{fun_ext}
 use Rattle.lexing.specs.declared.token.Kind.TheVariants.{Keyword}
-use Rattle.lexing.specs.Tokens.{Lexeme, same_bytes}
+use Rattle.lexing.specs.Tokens.{same_bytes}
 use Rattle.language.specs.Nesting.{most_lists}
 use Rattle.language.specs.Syntax.{Right, atom}
 use Rattle.language.specs.Reading.{Answer, Reader, then, give, starts, is_kind, atom_of, type_of, operands, nil_of, cons_of, call_of, if_of, region_of, case_of}

@@ -1,15 +1,15 @@
 -- Where a token and what is behind it stand in the whole text, and that the end stands at its end.
-use Rattle.std.proofs.Common.{◌≡◌, ℕ, suc, ◌+◌, ◌-◌, ◌<◌, ◌≤◌, Bool, true, false, leb, List, [], ◌∷◌, length, take, drop, is_some, Ok, Err, Result, sym, refl, ap, ◌∙◌, arith, length-drop}
+use Rattle.std.proofs.Common.{◌≡◌, ℕ, ◌+◌, Bool, true, false, leb, List, [], ◌∷◌, length, take, drop, is_some, Ok, Err, Result, sym, refl, ap, ◌∙◌, arith, length-drop}
 use borrow.Author.Tests.{both_ways}
 use Rattle.std.proofs.lemmas.List.{length-take-le, drop-drop}
 use Rattle.lexing.specs.declared.token.Kind.{Kind}
-use Rattle.lexing.specs.declared.token.Kind.TheVariants.{End, Name, Keyword, Numeral, Mark}
+use Rattle.lexing.specs.declared.token.Kind.TheVariants.{Name, Keyword, Numeral, Mark}
 use Rattle.lexing.specs.declared.fault.Question.{Question}
 use Rattle.lexing.specs.declared.fault.Question.TheVariants.{FirstByte, NameLength, NumeralFits}
 use Rattle.lexing.specs.Classes.{blank, letter, mark, letter_like}
 use Rattle.lexing.specs.Runs.{run, begins}
 use Rattle.lexing.specs.Numerals.{number_of}
-use Rattle.lexing.specs.Tokens.{Lexeme, Refusal, width, kind_of, word_kind, numeral_kind, numeral_begins, keyword, unblanked, token_at}
+use Rattle.lexing.specs.Tokens.{Lexeme, Refusal, width, kind_of, numeral_begins, keyword, unblanked, token_at}
 use Rattle.lexing.specs.Texts.{at_end, behind}
 use Rattle.lexing.proofs.Offsets.{answer, token-at_is}
 use Rattle.lexing.proofs.Walks.{width-within, token-behind}

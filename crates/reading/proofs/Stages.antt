@@ -1,5 +1,5 @@
 -- A part of the grammar read step by step: how far the cursor came, and what the table says so far.
-use Rattle.std.proofs.Common.{◌≡◌, ℕ, suc, ◌+◌, ◌<◌, ◌≤◌, List, [], ◌∷◌, ◌++◌, length, Ok, Err, Result, sym, refl, ap, ◌∙◌, subst, append_assoc, arith}
+use Rattle.std.proofs.Common.{◌≡◌, ℕ, suc, ◌+◌, ◌≤◌, List, [], ◌∷◌, ◌++◌, length, Ok, Err, Result, sym, refl, ap, ◌∙◌, subst, append_assoc, arith}
 use Rattle.lexing.specs.declared.fault.Fault.{Fault}
 use Rattle.language.specs.Reading.{Reader}
 use Rattle.draft.specs.declared.command.Command.{Command}

@@ -1,21 +1,19 @@
 -- One step of a cursor, and what its token is to the grammar.
-use Rattle.std.proofs.Common.{◌≡◌, ℕ, suc, ◌+◌, ◌<◌, ◌≤◌, Bool, true, false, ◌&&◌, eqb, List, [], ◌∷◌, length, take, drop, ℤ, Some, None, Ok, Err, codes, Option, Result, sym, refl, ap, ◌∙◌, subst, arith, MatchResult}
+use Rattle.std.proofs.Common.{◌≡◌, ℕ, suc, Bool, true, false, eqb, List, [], ◌∷◌, length, ℤ, Some, None, Ok, Err, codes, Option, Result, sym, refl, ap, ◌∙◌, subst, arith, MatchResult}
 use borrow.Author.Tests.{both_ways}
 use Rattle.std.proofs.lemmas.Bool.Decides.{nat_tests}
 use Rattle.lexing.specs.declared.token.Kind.{Kind}
 use Rattle.lexing.specs.declared.token.Kind.TheVariants.{End, Name, Keyword, Numeral, Mark}
 use Rattle.lexing.specs.declared.fault.Fault.{Fault}
-use Rattle.lexing.specs.declared.fault.Question.TheVariants.{Grammar}
 use Rattle.lexing.specs.Numbers.{kind_number}
 use Rattle.lexing.specs.Numerals.{number_of}
-use Rattle.lexing.specs.Tokens.{Lexeme, Refusal, token_at, same_bytes}
+use Rattle.lexing.specs.Tokens.{Lexeme, token_at, same_bytes}
 use Rattle.lexing.specs.Texts.{at_end, behind}
 use Rattle.language.specs.Verdict.{Refused}
 use Rattle.language.specs.Syntax.{Ident, Atom, var, num}
-use Rattle.language.specs.Reading.{Reader, then, on, give, refuse, starts, here, rest, mark_of, is_kind, one, name_in, number_in, atom_in, name_of, atom_of}
-use Rattle.draft.specs.Items.{ident}
+use Rattle.language.specs.Reading.{Reader, then, on, give, refuse, starts, here, rest, mark_of, is_kind, one, name_in, number_in, atom_in, name_of}
 use Rattle.reading.specs.declared.cursor.Cursor.{Cursor}
-use Rattle.reading.specs.Cursors.{token_of, end_of, refused, tokens_left, ahead, Left, Sound, Next, Past, word_of}
+use Rattle.reading.specs.Cursors.{token_of, end_of, tokens_left, ahead, Left, Sound, Next, Past}
 use Rattle.reading.proofs.Places.{placed}
 use Rattle.reading.proofs.Walks.{first}
 

@@ -1,10 +1,10 @@
 -- A text whose tokens pass the questions 1 to 5, and the answer of reading it.
-use Rattle.std.proofs.Common.{◌≡◌, ℕ, zero, suc, ◌+◌, ◌<◌, ◌≤◌, Bool, true, false, leb, List, [], ◌∷◌, length, is_ok, Ok, Err, Result, sym, refl, ap, ◌∙◌, subst, inl, inr, arith}
+use Rattle.std.proofs.Common.{◌≡◌, ℕ, zero, suc, ◌≤◌, Bool, true, false, leb, List, [], length, is_ok, Ok, Err, Result, sym, refl, ap, ◌∙◌, subst, inl, inr, arith}
 use Rattle.std.proofs.lemmas.Bool.Decides.{nat_tests}
 use Rattle.lexing.specs.declared.fault.Question.TheVariants.{TextLength}
 use Rattle.lexing.specs.Numbers.{question_number}
 use Rattle.lexing.specs.Tokens.{Lexeme, Refusal, token_at}
-use Rattle.lexing.specs.Texts.{before, at_end, behind, from_one, tokens_from, tokens_of}
+use Rattle.lexing.specs.Texts.{at_end, behind, from_one, tokens_from, tokens_of}
 use Rattle.lexing.specs.Answers.{counted}
 use Rattle.lexing.proofs.Counts.{Others, by_end, from_one-is}
 use Rattle.language.specs.Nesting.{most_lists, most_blocks}

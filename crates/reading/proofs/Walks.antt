@@ -1,5 +1,5 @@
 -- The walk from one token to the next keeps its tokens, with any room and any steps that are enough.
-use Rattle.std.proofs.Common.{◌≡◌, ℕ, zero, suc, ◌+◌, ◌-◌, ◌<◌, ◌≤◌, Bool, true, false, List, [], ◌∷◌, length, is_ok, Ok, Err, Result, sym, refl, ap, ◌∙◌, arith}
+use Rattle.std.proofs.Common.{◌≡◌, ℕ, zero, suc, ◌<◌, ◌≤◌, Bool, true, false, List, [], ◌∷◌, length, is_ok, Ok, Err, Result, sym, refl, ap, ◌∙◌, arith}
 use Rattle.lexing.specs.Tokens.{Lexeme, Refusal, token_at}
 use Rattle.lexing.specs.Texts.{before, at_end, behind, from_one, tokens_from}
 use Rattle.lexing.proofs.Counts.{Others, by_end, from_one-is, steps_enough}

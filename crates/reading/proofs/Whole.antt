@@ -1,16 +1,12 @@
 -- All functions, one after the other, and the whole text.
-use Rattle.std.proofs.Common.{◌≡◌, ℕ, zero, suc, ◌-◌, ◌<◌, true, false, List, [], ◌∷◌, ◌++◌, length, Ok, Err, Result, sym, refl, ap, ◌∙◌, subst, arith}
+use Rattle.std.proofs.Common.{◌≡◌, ℕ, zero, suc, ◌-◌, ◌<◌, List, [], ◌∷◌, Ok, Err, Result, sym, refl, ap, ◌∙◌, subst, arith}
 use Rattle.lexing.specs.declared.fault.Fault.{Fault}
 use Rattle.lexing.specs.Tokens.{Lexeme}
-use Rattle.lexing.specs.Texts.{at_end}
 use Rattle.language.specs.Verdict.{Refused}
-use Rattle.language.specs.Syntax.{Fun, Script}
 use Rattle.language.specs.Reading.{Reader, Answer, funs}
 use Rattle.draft.specs.declared.table.Table.{Table}
 use Rattle.reading.specs.declared.cursor.Cursor.{Cursor}
-use Rattle.reading.specs.Cursors.{ahead, token_of, refused, tokens_left}
 use Rattle.reading.specs.Growth.{ReadsAll}
-use Rattle.reading.proofs.Steps.{ahead-end, ahead_more}
 
 -- the exit of a `?`
 pub broken_all : (whole room : ℕ) (c : Cursor) (old new : Table) {r : Result (Unit {0}) Fault} {e : Fault} → (y : Fault) × (r ≡ Err y) × (y ≡ e) → ReadsAll whole room c old new (Err e) → ReadsAll whole room c old new r

@@ -1,5 +1,5 @@
 -- What a cursor has before it: the tokens from its own on, in a text whose tokens all pass the questions 1 to 5.
-use Rattle.std.specs.Prelude.{◌≡◌, ℕ, suc, ◌+◌, ◌<◌, ◌≤◌, Bool, true, false, List, [], ◌∷◌, length, take, drop, is_ok, Some, Ok, Err, codes, Result, MatchResult}
+use Rattle.std.specs.Prelude.{◌≡◌, ℕ, suc, ◌+◌, ◌<◌, ◌≤◌, true, false, List, [], ◌∷◌, length, take, drop, is_ok, Some, Ok, Err, codes, Result, MatchResult}
 use Rattle.lexing.specs.declared.token.Kind.{Kind}
 use Rattle.lexing.specs.declared.fault.Fault.{Fault}
 use Rattle.lexing.specs.Numbers.{question_number}

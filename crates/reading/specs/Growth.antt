@@ -1,5 +1,5 @@
 -- How a part of the grammar is read: the cursor goes on behind it, and the table says its items besides.
-use Rattle.std.specs.Prelude.{◌≡◌, ℕ, ◌+◌, ◌<◌, ◌≤◌, List, [], ◌∷◌, ◌++◌, length, Ok, Err, Result, MatchResult}
+use Rattle.std.specs.Prelude.{◌≡◌, ℕ, ◌+◌, ◌≤◌, List, ◌++◌, length, Ok, Err, Result, MatchResult}
 use Rattle.lexing.specs.declared.fault.Fault.{Fault}
 use Rattle.language.specs.Syntax.{Script}
 use Rattle.language.specs.Reading.{Reader, funs}

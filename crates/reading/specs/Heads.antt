@@ -1,5 +1,5 @@
 -- The word that a right side begins with.
-use Rattle.std.specs.Prelude.{ℕ, Bool, true, false, List, Some, None, codes, Option}
+use Rattle.std.specs.Prelude.{ℕ, true, false, List, Some, None, codes, Option}
 use Rattle.lexing.specs.declared.token.Kind.TheVariants.{Keyword}
 use Rattle.lexing.specs.Tokens.{Lexeme, same_bytes}
 use Rattle.language.specs.Reading.{is_kind}

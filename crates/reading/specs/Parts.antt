@@ -1,5 +1,5 @@
 -- The parts of the grammar as the reader takes them, and the items of each.
-use Rattle.std.specs.Prelude.{ℕ, List, [], ◌∷◌, codes}
+use Rattle.std.specs.Prelude.{ℕ, List}
 use Rattle.language.specs.Syntax.{Ident, Atom, Right, Block, Fun}
 use Rattle.language.specs.Reading.{Reader, here, rest, then, give, atom_of, type_of, right_of, block_of, inside, fun_of}
 use Rattle.language.specs.Nesting.{most_lists, most_blocks}

@@ -1,5 +1,5 @@
 -- Lines and columns, as a cursor goes over the bytes of a text.
-use Rattle.std.specs.Prelude.{Bool, true, false, not, List, [], ◌∷◌, ◌++◌, ℕ, suc, ◌+◌, eqb, take, drop}
+use Rattle.std.specs.Prelude.{true, false, List, [], ◌∷◌, ℕ, ◌+◌, eqb}
 use Rattle.report.specs.declared.position.Position.{Position}
 
 abbrev pub at : ℕ → ℕ → Position

@@ -1,9 +1,7 @@
 -- Regions handed over and arguments, one after the other.
-use Rattle.std.proofs.Common.{◌≡◌, ℕ, ◌+◌, ◌<◌, ◌≤◌, List, [], ◌∷◌, ◌++◌, length, drop, ℤ, sym, refl, ap, ◌∙◌, subst, arith}
+use Rattle.std.proofs.Common.{◌≡◌, ℕ, ◌+◌, ◌<◌, List, [], ◌∷◌, drop, ℤ, sym, ap, ◌∙◌, subst, arith}
 use Rattle.language.specs.Syntax.{Ident, Atom, var, num, Block, last, bind, print}
-use Rattle.language.specs.Types.{RegionType}
-use Rattle.language.specs.Scope.{Scope}
-use Rattle.language.specs.Typing.{TypedAtom, TypedAtoms, no_atoms, more_atoms}
+use Rattle.language.specs.Typing.{more_atoms}
 use Rattle.language.proofs.WellTyped.{atom-says}
 use Rattle.draft.specs.declared.command.Name.{Name}
 use Rattle.draft.specs.declared.table.Table.{Table}
@@ -12,13 +10,12 @@ use Rattle.draft.specs.declared.command.Command.TheVariants.{Variable, Number}
 use Rattle.resolving.proofs.Others.{no-variable, no_number}
 use Rattle.draft.specs.Items.{Item, item, a_variable, a_number, a_handed, text_of, items, ident, items_atom, items_each, items_handed, items_block}
 use Rattle.scope.specs.Words.{bytes}
-use Rattle.program.specs.declared.command.Command.{Command}
 use Rattle.program.specs.declared.command.Command.TheVariants.{Hand, Argument}
-use Rattle.program.specs.Compiled.{region_slot, operand, handed, arguments}
+use Rattle.program.specs.Compiled.{region_slot}
 use Rattle.resolving.specs.declared.tape.Tape.{Tape}
 use Rattle.resolving.specs.declared.names.Names.{Names}
 use Rattle.resolving.specs.declared.atoms.Known.{Known}
-use Rattle.resolving.specs.Walks.{Grows, scope_of, AtomKnown, Passed, Hands, Argues}
+use Rattle.resolving.specs.Walks.{Grows, scope_of, AtomKnown, Hands, Argues}
 use Rattle.resolving.proofs.Growth.{grows_none, grows-join}
 
 -- behind the regions stands none

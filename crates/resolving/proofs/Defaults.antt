@@ -1,6 +1,6 @@
 -- Where no block, no right side with a word of its own begins.
-use Rattle.std.proofs.Common.{◌≡◌, ℕ, ◌+◌, ◌<◌, ◌≤◌, List, [], ◌∷◌, drop, sym, refl, ◌∙◌, arith}
-use Rattle.language.specs.Syntax.{Atom, var, num, Right, atom, oper, nil, cons, call, test, region, split, Block, last, bind, print}
+use Rattle.std.proofs.Common.{◌≡◌, ℕ, List, [], ◌∷◌, drop, arith}
+use Rattle.language.specs.Syntax.{var, num, Right, atom, oper, nil, cons, call, test, region, split, Block, last, bind, print}
 use Rattle.language.specs.Typing.{atom_has}
 use Rattle.draft.specs.declared.command.Name.{Name}
 use Rattle.draft.specs.declared.command.Operator.{Operator}

@@ -1,20 +1,19 @@
 -- The whole table: what all functions lay down and list is what the script is resolved to.
-use Rattle.std.proofs.Common.{◌≡◌, ℕ, ◌+◌, ◌<◌, ◌≤◌, List, [], ◌∷◌, ◌++◌, length, drop, Ok, codes, sym, refl, ap, ◌∙◌, subst, arith}
+use Rattle.std.proofs.Common.{◌≡◌, ℕ, ◌+◌, ◌≤◌, [], ◌++◌, length, Ok, codes, sym, ap, ◌∙◌, arith}
 use Rattle.std.proofs.ByRecursion.{all_has_itself}
-use Rattle.language.specs.Syntax.{Fun, Script}
+use Rattle.language.specs.Syntax.{Script}
 use Rattle.language.specs.Checking.{checking}
 use Rattle.language.proofs.Passing.{passed_is}
 use Rattle.language.proofs.Limits.{scopes_keep_limits}
 use Rattle.draft.specs.declared.table.Table.{Table}
 use Rattle.draft.specs.Items.{items, items_of}
-use Rattle.program.specs.declared.code.Code.{Code}
-use Rattle.program.specs.Compiled.{compiled, compiled_from, listed, listed_from, main_index}
+use Rattle.program.specs.Compiled.{compiled_from, listed_from}
 use Rattle.program.specs.Held.{Holds}
 use Rattle.program.proofs.Sizes.{from_length}
 use Rattle.resolving.specs.declared.tape.Tape.{Tape}
 use Rattle.resolving.specs.declared.functions.Entries.{Entries}
-use Rattle.resolving.specs.Walks.{laid, Grows, functions_before}
-use Rattle.resolving.specs.Whole.{listed_in, Lists, FunctionsWalk}
+use Rattle.resolving.specs.Walks.{laid, functions_before}
+use Rattle.resolving.specs.Whole.{listed_in, FunctionsWalk}
 use Rattle.resolving.proofs.Lengths.{funs-items}
 use Rattle.resolving.proofs.Scanning.{scanned}
 

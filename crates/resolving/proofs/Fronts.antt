@@ -1,5 +1,5 @@
 -- What stands at the front of items.
-use Rattle.std.proofs.Common.{◌≡◌, ℕ, ◌+◌, List, [], ◌∷◌, drop, sym, refl, ap, ◌∙◌, arith}
+use Rattle.std.proofs.Common.{◌≡◌, ℕ, ◌+◌, List, [], ◌∷◌, drop, ap, ◌∙◌, arith}
 use Rattle.draft.specs.declared.command.Command.{Command}
 use Rattle.draft.specs.declared.table.Table.{Table}
 use Rattle.draft.specs.Items.{Item, text_of, items, item}

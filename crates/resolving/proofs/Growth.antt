@@ -1,5 +1,5 @@
 -- How a tape grows, and how it is set back.
-use Rattle.std.proofs.Common.{◌≡◌, ℕ, ◌+◌, ◌<◌, ◌≤◌, List, [], ◌∷◌, ◌++◌, length, take, sym, refl, ap, ◌∙◌, subst, append_assoc, append-nil, arith, length-append, take-take}
+use Rattle.std.proofs.Common.{◌≡◌, ℕ, ◌+◌, List, [], ◌++◌, length, take, sym, ap, ◌∙◌, append_assoc, append-nil, arith, length-append, take-take}
 use lib.Seq.{take-append_seam}
 use Rattle.program.specs.declared.command.Command.{Command}
 use Rattle.resolving.specs.declared.tape.Tape.{Tape}

@@ -1,19 +1,18 @@
 -- A header, part by part.
-use Rattle.std.proofs.Common.{◌≡◌, ℕ, ◌+◌, ◌<◌, ◌≤◌, List, [], ◌∷◌, ◌++◌, map, length, drop, sym, refl, ap, ◌∙◌, subst, append_assoc, append-nil, arith}
-use Rattle.language.specs.Syntax.{Ident, Ty, int, list, Block, Param, Fun}
+use Rattle.std.proofs.Common.{◌≡◌, ℕ, ◌+◌, ◌<◌, List, [], ◌∷◌, map, length, drop, sym, refl, ap, ◌∙◌, subst, append_assoc, append-nil, arith}
+use Rattle.language.specs.Syntax.{Ident, Ty, int, list}
 use Rattle.language.specs.Types.{Name, RegionType, unplaced}
 use Rattle.language.specs.Types as types
-use Rattle.language.specs.Scope.{Scope, Variable, with_variable, with_region, names, as_variable, header_scope, empty_scope}
-use Rattle.language.specs.Typing.{NewRegions, no_new_regions, more_new_regions, NewParams, no_new_params, more_new_params, TypedHeader}
+use Rattle.language.specs.Scope.{Scope, Variable, with_variable, with_region, names, as_variable, empty_scope}
+use Rattle.language.specs.Typing.{more_new_regions, more_new_params}
 use Rattle.draft.specs.declared.command.Name.{Name as NameOf}
 use Rattle.draft.specs.declared.table.Table.{Table}
-use Rattle.draft.specs.Items.{Item, a_function, a_header_region, a_parameter, an_outcome, an_int, a_list, text_of, items, ident, items_type, items_each, items_header_region, items_param, items_block, items_fun}
+use Rattle.draft.specs.Items.{Item, a_function, a_header_region, a_parameter, an_outcome, a_list, text_of, items, ident, items_type, items_each, items_header_region, items_param, items_block}
 use Rattle.scope.specs.declared.types.Sort.TheVariants.{Written}
-use Rattle.scope.specs.Words.{bytes, row, word, of_words, type_at, type_of}
+use Rattle.scope.specs.Words.{type_at, type_of}
 use Rattle.resolving.specs.declared.names.Names.{Names}
 use Rattle.resolving.specs.declared.headers.Brought.{Brought}
-use Rattle.resolving.specs.declared.headers.Header.{Header}
-use Rattle.resolving.specs.Walks.{scope_of, TypeBehind, RegionsIn, ParamsIn, Headed, HeaderWalk, OneBehind}
+use Rattle.resolving.specs.Walks.{scope_of, TypeBehind, RegionsIn, ParamsIn, HeaderWalk, OneBehind}
 
 -- the type that stands at the front
 pub type-front : (T : Ty) (rest : List Item) → type_at (items_type T rest) ≡ unplaced T

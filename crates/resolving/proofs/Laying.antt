@@ -1,25 +1,21 @@
 -- What one right side without blocks lays down.
-use Rattle.std.proofs.Common.{◌≡◌, ℕ, ◌+◌, ◌<◌, ◌≤◌, List, [], ◌∷◌, ◌++◌, length, drop, sym, refl, ap, ◌∙◌, subst, arith}
-use Rattle.std.specs.List.{AllByRecursion as All}
+use Rattle.std.proofs.Common.{◌≡◌, ℕ, ◌+◌, ◌<◌, ◌≤◌, List, [], ◌∷◌, length, drop, sym, refl, ap, ◌∙◌, subst, arith}
 use Rattle.std.proofs.lemmas.List.{length-map}
-use Rattle.language.specs.Syntax.{Ident, Ty, Atom, Op, Right, atom, oper, nil, cons, call, Block, Fun, Script}
-use Rattle.language.specs.Types.{Name, RegionType, int, list, unplaced, replaced}
+use Rattle.language.specs.Syntax.{Ident, Ty, Atom, Right, oper, nil, cons, call, Block, Script}
+use Rattle.language.specs.Types.{RegionType, int, list, replaced}
 use Rattle.language.specs.Scope.{Scope, names}
-use Rattle.language.specs.Typing.{TypedAtom, TypedRight, oper_has, nil_has, cons_has, call_has, TypedHeader, at_call}
+use Rattle.language.specs.Typing.{TypedRight, oper_has, nil_has, cons_has, call_has, TypedHeader}
 use Rattle.language.proofs.WellTyped.{atom-says}
 use Rattle.language.proofs.InScope.{headers-each}
 use Rattle.draft.specs.declared.command.Name.{Name as NameOf}
 use Rattle.draft.specs.declared.command.Operator.{Operator}
 use Rattle.draft.specs.declared.command.Operator.TheVariants.{Add, Sub, Mul, Div, Rem, Eq, Lt}
 use Rattle.draft.specs.declared.table.Table.{Table}
-use Rattle.draft.specs.Items.{Item, a_function, an_outcome, an_operation, a_nil, a_cons, a_call, text_of, items, ident, operator, items_type, items_atom, items_each, items_handed, items_header_region, items_param, items_right, items_block, items_fun}
-use Rattle.scope.specs.declared.types.Sort.{Sort}
+use Rattle.draft.specs.Items.{Item, a_function, an_operation, a_nil, a_cons, a_call, text_of, items, ident, operator, items_type, items_atom, items_each, items_handed, items_block, items_fun}
 use Rattle.scope.specs.declared.types.Sort.TheVariants.{Int, Written, Called}
-use Rattle.scope.specs.Words.{bytes, row, declared, handed as handed-word, type_at, type_of}
-use Rattle.program.specs.declared.command.Command.{Command}
+use Rattle.scope.specs.Words.{bytes, row, declared, handed as handed-word, type_at}
 use Rattle.program.specs.declared.command.Command.TheVariants.{Move, Operate, Nil, Cons, Call, Hand}
-use Rattle.program.specs.declared.command.Operand.{Operand}
-use Rattle.program.specs.Compiled.{region_slot, free_slot, operand, operator_of, function_index, right_size, handed, arguments, compiled_right}
+use Rattle.program.specs.Compiled.{region_slot, free_slot, operand, operator_of, function_index, right_size, compiled_right}
 use Rattle.program.proofs.Found.{found_all}
 use Rattle.resolving.specs.declared.tape.Tape.{Tape}
 use Rattle.resolving.specs.declared.names.Names.{Names}
@@ -29,7 +25,6 @@ use Rattle.resolving.specs.declared.headers.Header.{Header}
 use Rattle.resolving.specs.declared.rights.End.{End}
 use Rattle.resolving.specs.Walks.{Grows, scope_of, AtomKnown, Hands, Argues, Sought, OneBehind, TypeBehind, HeaderWalk, Stands, Stage, Walked, AtomWalk, RightWalk, functions_before, function_from}
 use Rattle.resolving.proofs.Growth.{grows-join}
-use Rattle.resolving.proofs.Fronts.{front_rest}
 use Rattle.resolving.proofs.Heading.{type-front}
 use Rattle.resolving.proofs.Parts.{oper-front, nil-front, cons-front, call-front}
 use Rattle.resolving.proofs.Rows.{declared-row, handed-row}

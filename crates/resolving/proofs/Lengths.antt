@@ -1,6 +1,6 @@
 -- A part has at least as many items as commands.
-use Rattle.std.proofs.Common.{◌≡◌, ℕ, ◌+◌, ◌<◌, ◌≤◌, List, [], ◌∷◌, length, sym, refl, ap, ◌∙◌, arith}
-use Rattle.language.specs.Syntax.{Ident, Ty, int, list, Atom, var, num, Right, atom, oper, nil, cons, call, test, region, split, Block, last, bind, print, Param, Fun, Script}
+use Rattle.std.proofs.Common.{◌≡◌, ◌+◌, ◌≤◌, List, [], ◌∷◌, length, arith}
+use Rattle.language.specs.Syntax.{Ident, Ty, int, list, Atom, var, num, Right, atom, oper, nil, cons, call, test, region, split, Block, last, bind, print, Param, Fun}
 use Rattle.draft.specs.Items.{Item, an_outcome, case_names, items_type, items_atom, items_each, items_handed, items_header_region, items_right, items_block, items_param, items_fun}
 use Rattle.program.specs.Compiled.{right_size, block_size}
 use Rattle.program.proofs.Sizes.{bodies-size}

@@ -5,7 +5,7 @@ use Rattle.draft.specs.declared.command.Operator.{Operator}
 use Rattle.draft.specs.declared.command.Name.{Name}
 use Rattle.draft.specs.declared.command.Command.{Command}
 use Rattle.draft.specs.declared.command.Command.TheVariants.{Function, HeaderRegion, Parameter, Outcome, Int, List as ListCommand, Let, Print, Last, Variable, Number, Operate, Nil, Cons, Call, Handed, If, Region, Case, CaseNames}
-use Rattle.draft.specs.Items.{Item, a_function, a_header_region, a_parameter, an_outcome, an_int, a_list, a_let, a_print, a_last, a_variable, a_number, an_operation, a_nil, a_cons, a_call, a_handed, an_if, a_region, a_case, case_names, item}
+use Rattle.draft.specs.Items.{a_header_region, a_parameter, a_list, a_let, a_print, a_last, a_variable, a_number, an_operation, a_nil, a_cons, a_call, a_handed, an_if, a_region, a_case, item}
 
 pub no-handed : (text : List ℕ) (c : Command) (x : Ident) → ((n : Name) → c ≡ Handed n → ⊥) → item text c ≡ a_handed x → ⊥
 no-handed text (Function a) x h e = let z : ◌≡◌ {A = ℕ} 0 1 = cc in omega arith

@@ -1,7 +1,7 @@
 -- Which right side, which block begins with an item.
-use Rattle.std.proofs.Common.{◌≡◌, ℕ, List, [], ◌∷◌, ℤ, refl, arith}
+use Rattle.std.proofs.Common.{◌≡◌, ℕ, List, ◌∷◌, arith}
 use Rattle.language.specs.Syntax.{Ident, Ty, Atom, var, num, Op, Right, atom, oper, nil, cons, call, test, region, split, Block, last, bind, print}
-use Rattle.draft.specs.Items.{Item, a_let, a_print, a_last, a_variable, a_number, an_operation, a_nil, a_cons, a_call, an_if, a_region, a_case, case_names, items_type, items_atom, items_each, items_handed, items_right, items_block}
+use Rattle.draft.specs.Items.{Item, a_let, a_print, a_last, an_operation, a_nil, a_cons, a_call, an_if, a_region, a_case, case_names, items_type, items_atom, items_each, items_handed, items_right, items_block}
 
 pub oper-front : (p : ℕ) (o : Op) (xs rest : List Item) (r : Right) → an_operation p o ∷ xs ≡ items_right r rest → (a b : Atom) × (r ≡ oper p o a b) × (xs ≡ items_atom a (items_atom b rest))
 oper-front p o xs rest (atom (var y')) e = absurd (let z : ◌≡◌ {A = ℕ} 0 1 = cc in omega arith)

@@ -1,7 +1,7 @@
 -- Looked for among the items of a script, a function is found where the script has it.
-use Rattle.std.proofs.Common.{◌≡◌, ℕ, suc, Bool, true, false, List, [], ◌∷◌, Some, None, Option, sym, refl, ap, ◌∙◌, arith}
+use Rattle.std.proofs.Common.{◌≡◌, ℕ, suc, Bool, true, false, List, [], ◌∷◌, Some, Option, sym, refl, ap, ◌∙◌, arith}
 use Rattle.lexing.specs.Tokens.{same_bytes}
-use Rattle.language.specs.Syntax.{Ident, Ty, int, list, Atom, var, num, Right, atom, oper, nil, cons, call, test, region, split, Block, last, bind, print, Param, Fun, Script}
+use Rattle.language.specs.Syntax.{Ty, int, list, Atom, var, num, Right, atom, oper, nil, cons, call, test, region, split, Block, last, bind, print, Fun, Script}
 use Rattle.language.specs.Types.{Name}
 use Rattle.language.specs.Scope.{find_function}
 use Rattle.draft.specs.Items.{Item, an_outcome, case_names, items_type, items_atom, items_each, items_handed, items_header_region, items_right, items_block, items_param, items_fun, items_of}

@@ -1,5 +1,5 @@
 -- A variable's slot and its type, from the entry that it is found at.
-use Rattle.std.proofs.Common.{◌≡◌, ℕ, ◌<◌, List, [], ◌∷◌, map, length, get_or, take, Some, Ok, sym, refl, ap, ◌∙◌, subst, arith}
+use Rattle.std.proofs.Common.{◌≡◌, ℕ, ◌<◌, List, ◌∷◌, map, length, take, Some, Ok, sym, ap, ◌∙◌, subst, arith}
 use Rattle.std.proofs.lemmas.List.{get_or-map, length-map}
 use Rattle.language.specs.Syntax.{Ident, Atom, var, num}
 use Rattle.language.specs.Types.{RegionType}
@@ -14,11 +14,10 @@ use Rattle.scope.specs.declared.types.Sort.{Sort}
 use Rattle.scope.specs.declared.types.Sort.TheVariants.{Int}
 use Rattle.scope.specs.Words.{bytes, type_of}
 use Rattle.program.specs.declared.command.Operand.TheVariants.{Slot}
-use Rattle.program.specs.Compiled.{index, variable_slot, operand}
+use Rattle.program.specs.Compiled.{variable_slot}
 use Rattle.resolving.specs.declared.names.Names.{Names}
-use Rattle.resolving.specs.declared.atoms.Known.{Known}
 use Rattle.resolving.specs.Walks.{variable_of, scope_of, AtomSort, Meant}
-use Rattle.resolving.proofs.Indices.{found_at, index-map}
+use Rattle.resolving.proofs.Indices.{found_at}
 
 -- the type in the entry at a variable's slot
 slot_type : (t : Table) (n : Names) (x : List ℕ) (v : Variable) (s : Sort) → AtomSort n (variable_slot (scope_of t n) x) s → find_variable (scope_of t n) x ≡ Some v → type_of (items t) s ≡ v.type

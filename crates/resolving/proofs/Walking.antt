@@ -3,14 +3,13 @@ use Rattle.std.proofs.Common.{◌≡◌, ℕ, ◌+◌, ◌<◌, ◌≤◌, Bool,
 use Rattle.language.specs.Syntax.{Ident, Atom, Right, test, region, split, Block, last, bind, print, Script}
 use Rattle.language.specs.Types.{Name, RegionType, int, list}
 use Rattle.language.specs.Scope.{Scope, with_variable, with_region}
-use Rattle.language.specs.Typing.{TypedAtom, TypedRight, test_has, region_has, split_has, TypedBlock, last_has, bind_has, print_has}
+use Rattle.language.specs.Typing.{TypedRight, test_has, region_has, split_has, TypedBlock, last_has, bind_has, print_has}
 use Rattle.language.specs.Checking.{type_atom, type_right}
 use Rattle.language.proofs.WellTyped.{atom-says, right_says}
-use Rattle.draft.specs.declared.command.Name.{Name as NameOf}
 use Rattle.draft.specs.declared.table.Table.{Table}
-use Rattle.draft.specs.Items.{Item, a_let, a_print, a_last, an_if, a_region, a_case, case_names, text_of, items, ident, items_atom, items_right, items_block}
+use Rattle.draft.specs.Items.{Item, a_let, a_print, a_last, an_if, a_region, a_case, case_names, items, items_atom, items_right, items_block}
 use Rattle.scope.specs.declared.types.Sort.{Sort}
-use Rattle.scope.specs.Words.{bytes, type_of}
+use Rattle.scope.specs.Words.{type_of}
 use Rattle.program.specs.declared.command.Command.{Command}
 use Rattle.program.specs.declared.command.Command.TheVariants.{If, Open, Case, Print, Finish}
 use Rattle.program.specs.declared.command.Operand.{Operand}

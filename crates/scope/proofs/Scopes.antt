@@ -1,8 +1,7 @@
 -- What is found in the scope that a state stands for, and how it grows.
-use Rattle.std.proofs.Common.{◌≡◌, ℕ, zero, suc, ◌+◌, ◌<◌, ◌≤◌, Bool, true, false, not, ltb, List, [], ◌∷◌, ◌++◌, map, length, take, is_some, Some, None, Ok, Err, Option, Result, sym, refl, ap, ◌∙◌, arith, le-ltb, lt-ltb}
+use Rattle.std.proofs.Common.{◌≡◌, ℕ, zero, suc, ◌<◌, ◌≤◌, Bool, true, false, not, ltb, List, [], ◌∷◌, map, length, take, is_some, Some, None, Ok, Err, Option, sym, refl, ap, ◌∙◌, arith, le-ltb, lt-ltb}
 use Rattle.std.specs.Option.{option_map}
 use Rattle.lexing.specs.Tokens.{same_bytes}
-use Rattle.language.specs.Verdict.{Refused}
 use Rattle.language.specs.Syntax.{Ident, var}
 use Rattle.language.specs.Types.{Name}
 use Rattle.language.specs.Scope.{find, Scope, Variable, find_region, find_variable}

@@ -1,5 +1,5 @@
 -- Entries that bear a name, and what is in scope by them.
-use Rattle.std.specs.Prelude.{◌≡◌, ℕ, ◌<◌, ◌≤◌, List, [], ◌∷◌, map, length, take, Some, slice_index_or}
+use Rattle.std.specs.Prelude.{◌≡◌, ℕ, ◌<◌, ◌≤◌, List, map, length, take, Some, slice_index_or}
 use Rattle.language.specs.Types.{Name}
 use Rattle.language.specs.Scope.{find, Scope, Variable, with_region, with_variable, empty_scope}
 use Rattle.draft.specs.declared.table.Table.{Table}

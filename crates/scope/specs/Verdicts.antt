@@ -1,5 +1,5 @@
 -- Answers of calls, read as answers of the definitions.
-use Rattle.std.specs.Prelude.{◌≡◌, Ok, Err, Result}
+use Rattle.std.specs.Prelude.{Ok, Err, Result}
 use Rattle.lexing.specs.declared.fault.Fault.{Fault}
 use Rattle.lexing.specs.Numbers.{question_number}
 use Rattle.language.specs.Verdict.{Refused}

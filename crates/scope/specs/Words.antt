@@ -1,5 +1,5 @@
 -- Names in a row: the words of a type, the regions that a header declares, the regions that a call hands over.
-use Rattle.std.specs.Prelude.{◌≡◌, ℕ, ◌-◌, List, [], ◌∷◌, drop, Some, None, Option}
+use Rattle.std.specs.Prelude.{ℕ, ◌-◌, List, [], ◌∷◌, drop, Some, None, Option}
 use Rattle.draft.specs.declared.command.Name.{Name}
 use Rattle.language.specs.Types.{RegionType, int, list, replaced}
 use Rattle.scope.specs.declared.types.Sort.{Sort}

@@ -1,5 +1,5 @@
 -- The start of the loop, and its step.
-use Rattle.std.proofs.Common.{◌≡◌, ◌<◌, length, vec_items, sym, ap, ◌∙◌, arith}
+use Rattle.std.proofs.Common.{◌<◌, length, vec_items, sym, ap, ◌∙◌, arith}
 use Rattle.std.proofs.lemmas.Bool.Decides.{nat_tests}
 use Rattle.escapes.specs.Escapes.{unescaped}
 use Rattle.escapes.proofs.Decoding.{joined, joined-none, joined-more}

@@ -1,7 +1,5 @@
 -- What the search leaves of the walk over blocks.
-use Rattle.std.proofs.Common.{◌≡◌, ◌<◌, ap, arith, rules}
-use Rattle.draft.specs.Items.{items}
-use Rattle.scope.specs.Entries.{scope_of}
+use Rattle.std.proofs.Common.{◌<◌, ap, arith, rules}
 use Rattle.checking.specs.Reads.{functions_of}
 use Rattle.checking.proofs.Steps.{opened}
 use Rattle.checking.proofs.Keeps.{grown-on, put_back, kept-scope}

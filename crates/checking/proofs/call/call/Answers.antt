@@ -1,5 +1,5 @@
 -- The function's header by what was found.
-use Rattle.std.proofs.Common.{◌≡◌, take, drop, Some, None, sym, refl, ap, ◌∙◌}
+use Rattle.std.proofs.Common.{take, drop, sym, ap, ◌∙◌}
 use Rattle.std.specs.Option.{option_map}
 use Rattle.language.specs.Scope.{find}
 use Rattle.language.specs.Checking.{◌>>=◌, found}
@@ -7,7 +7,7 @@ use Rattle.draft.specs.Items.{text_of, items, ident}
 use Rattle.scope.specs.Words.{bytes}
 use Rattle.scope.specs.Entries.{scope_of}
 use Rattle.scope.proofs.Scopes.{find-map}
-use Rattle.checking.specs.Walk.{walk_call, called}
+use Rattle.checking.specs.Walk.{called}
 use Rattle.checking.proofs.call.call.Goals as goal
 
 pub returns-in-None : goal.returns-in-None

@@ -1,5 +1,5 @@
 -- What the search leaves, with one step opened.
-use Rattle.std.proofs.Common.{◌≡◌, ◌<◌, ap, arith, rules}
+use Rattle.std.proofs.Common.{arith, rules}
 use Rattle.checking.specs.Reads.{functions_of}
 use Rattle.checking.proofs.Steps.{opened-bodies}
 use Rattle.checking.proofs.function.+bodies.Goals as goal

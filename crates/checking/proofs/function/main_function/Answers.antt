@@ -1,5 +1,5 @@
 -- Found or not, and as a main should be or not.
-use Rattle.std.proofs.Common.{◌≡◌, List, get_or, take, drop, codes, sym, refl, ap, ◌∙◌}
+use Rattle.std.proofs.Common.{List, get_or, take, drop, codes, sym, ap, ◌∙◌}
 use Rattle.std.specs.Option.{option_map}
 use Rattle.language.specs.Syntax.{Ident}
 use Rattle.language.specs.Scope.{find}

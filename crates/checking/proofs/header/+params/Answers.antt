@@ -1,5 +1,5 @@
 -- What the search leaves, with one step opened.
-use Rattle.std.proofs.Common.{◌≡◌, ◌<◌, ap, arith, rules}
+use Rattle.std.proofs.Common.{◌<◌, arith, rules}
 use Rattle.checking.proofs.Steps.{opened-params}
 use Rattle.checking.proofs.header.+params.Goals as goal
 

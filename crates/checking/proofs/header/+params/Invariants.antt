@@ -1,5 +1,4 @@
 -- Fewer commands are left at each step.
-use Rattle.std.proofs.Common.{◌-◌}
 use Rattle.checking.proofs.header.+params.Given as goal
 
 abbrev pub decreases-params : goal.decreases-params

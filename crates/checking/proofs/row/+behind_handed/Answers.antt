@@ -1,5 +1,4 @@
 -- One region more of the row.
-use Rattle.std.proofs.Common.{◌≡◌}
 use Rattle.draft.specs.Items.{items}
 use Rattle.checking.proofs.Rows.{row-behind}
 use Rattle.checking.proofs.row.+behind_handed.Goals as goal

@@ -1,5 +1,5 @@
 -- The walk over the table's items is checking of the script that they are the items of.
-use Rattle.std.proofs.Common.{◌≡◌, ◌+◌, ◌<◌, length, sym, ap, ◌∙◌, arith}
+use Rattle.std.proofs.Common.{◌≡◌, ◌+◌, ◌<◌, length, ap, ◌∙◌, arith}
 use Rattle.draft.specs.Items.{items, items_of}
 use Rattle.checking.specs.Walk.{walk_script}
 use Rattle.checking.proofs.Scripts.{script-told}

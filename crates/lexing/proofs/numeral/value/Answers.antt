@@ -1,5 +1,5 @@
 -- Each way out of the loop over the digits, and its step.
-use Rattle.std.proofs.Common.{◌≡◌, Some, sym, ap, ◌∙◌, arith, w32, SFits, rules}
+use Rattle.std.proofs.Common.{Some, sym, ap, ◌∙◌, arith, w32, SFits, rules}
 use Rattle.std.proofs.lemmas.Int.{to_z-of_z}
 use Rattle.lexing.proofs.ByteClasses.{digit-range}
 use Rattle.lexing.proofs.Digits.{going_more, going_past, going_stop, going_end}

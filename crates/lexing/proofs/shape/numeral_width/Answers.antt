@@ -1,5 +1,5 @@
 -- The width of a numeral with a minus.
-use Rattle.std.proofs.Common.{sym, ◌∙◌, arith, rules}
+use Rattle.std.proofs.Common.{sym, ◌∙◌, rules}
 use Rattle.lexing.proofs.Shapes.{minus-width}
 use Rattle.lexing.proofs.shape.numeral_width.Goals as goal
 

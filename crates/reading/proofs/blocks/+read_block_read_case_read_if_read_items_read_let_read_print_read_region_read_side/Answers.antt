@@ -1,13 +1,12 @@
 -- Blocks, items and right sides, each from what its parts ensure.
-use Rattle.std.proofs.Common.{◌≡◌, ℕ, suc, ◌-◌, ◌<◌, List, [], ◌∷◌, length, Ok, Err, codes, sym, refl, ap, ◌∙◌, arith, rules}
+use Rattle.std.proofs.Common.{suc, ◌-◌, ◌∷◌, length, Ok, Err, codes, sym, refl, ap, ◌∙◌, arith, rules}
 use Rattle.std.proofs.lemmas.Result.{MatchResult-weaker, err_from_is_err_and}
 use Rattle.std.proofs.lemmas.Option.{MatchOption-at_some, MatchOption-at_none}
-use Rattle.lexing.specs.declared.token.Kind.TheVariants.{Keyword, Mark}
-use Rattle.language.specs.Syntax.{atom, test, region, split, last, bind, print}
-use Rattle.language.specs.Reading.{then, give, mark_of, key_of, name_of, atom_of, let_of, print_of, if_of, region_of, case_of}
+use Rattle.language.specs.Syntax.{atom, test, region, split, bind, print}
+use Rattle.language.specs.Reading.{then, give, mark_of, key_of, name_of, let_of, print_of, if_of, region_of, case_of}
 use Rattle.draft.specs.declared.command.Command.TheVariants.{Let, Print, If, Region, Case, CaseNames}
-use Rattle.draft.specs.Items.{ident, items_atom, items_block, a_print, an_if, a_case, case_names}
-use Rattle.reading.specs.Cursors.{end_of, ahead, refused, token_of}
+use Rattle.draft.specs.Items.{ident, a_print, an_if, a_case}
+use Rattle.reading.specs.Cursors.{end_of, ahead, refused}
 use Rattle.reading.specs.Parts.{behind_word, side_of, nested_of, inside_of}
 use Rattle.reading.proofs.Stages.{start, go, push, call, done, broken, ready, atom-told}
 use Rattle.reading.proofs.Openers.{side_is, side_by}

@@ -1,8 +1,5 @@
 -- The last atom, and the closing brace.
-use Rattle.std.proofs.Common.{◌≡◌, ℕ, suc, ◌-◌, ◌<◌, List, [], ◌∷◌, length, Ok, Err, codes, sym, refl, ap, ◌∙◌, arith, rules}
-use Rattle.std.proofs.lemmas.Result.{MatchResult-weaker, err_from_is_err_and}
-use Rattle.std.proofs.lemmas.Option.{MatchOption-at_some, MatchOption-at_none}
-use Rattle.lexing.specs.declared.token.Kind.TheVariants.{Keyword, Mark}
+use Rattle.std.proofs.Common.{◌∷◌, ap, rules}
 use Rattle.language.specs.Syntax.{last}
 use Rattle.draft.specs.declared.command.Command.TheVariants.{Last}
 use Rattle.draft.specs.Items.{a_last}

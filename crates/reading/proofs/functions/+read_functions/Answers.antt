@@ -1,11 +1,8 @@
 -- One function, and the others up to the end.
-use Rattle.std.proofs.Common.{◌≡◌, ℕ, suc, ◌-◌, ◌<◌, true, false, List, [], ◌∷◌, length, Ok, Err, codes, sym, refl, ap, ◌∙◌, arith, rules}
+use Rattle.std.proofs.Common.{suc, ◌-◌, [], ◌∷◌, length, Ok, sym, ap, ◌∙◌, arith}
 use Rattle.std.proofs.lemmas.Result.{MatchResult-weaker, err_from_is_err_and}
-use Rattle.std.proofs.lemmas.Option.{MatchOption-at_some, MatchOption-at_none}
-use Rattle.lexing.specs.declared.token.Kind.TheVariants.{Keyword, Mark}
 use Rattle.lexing.specs.Texts.{behind}
 use Rattle.language.specs.Reading.{funs}
-use Rattle.draft.specs.Items.{items_fun}
 use Rattle.reading.specs.Cursors.{end_of, ahead, token_of, tokens_left}
 use Rattle.reading.specs.Parts.{function_of}
 use Rattle.reading.proofs.Steps.{ahead-end, ahead_more}

@@ -1,13 +1,11 @@
 -- A function: its name, its regions, its parameters, its result and its block.
-use Rattle.std.proofs.Common.{◌≡◌, ℕ, suc, ◌-◌, ◌<◌, List, [], ◌∷◌, length, Ok, Err, codes, sym, refl, ap, ◌∙◌, arith, rules}
+use Rattle.std.proofs.Common.{suc, length, Ok, codes, sym, refl, ap, ◌∙◌, arith, rules}
 use Rattle.std.proofs.lemmas.Result.{MatchResult-weaker, err_from_is_err_and}
-use Rattle.std.proofs.lemmas.Option.{MatchOption-at_some, MatchOption-at_none}
-use Rattle.lexing.specs.declared.token.Kind.TheVariants.{Keyword, Mark}
 use Rattle.language.specs.Nesting.{most_lists, most_blocks}
-use Rattle.language.specs.Reading.{then, give, mark_of, name_of, regions, elements, param_of, type_of}
+use Rattle.language.specs.Reading.{mark_of, name_of, regions, elements, param_of, type_of}
 use Rattle.draft.specs.declared.command.Command.TheVariants.{Function, Outcome}
 use Rattle.draft.specs.Items.{ident}
-use Rattle.reading.specs.Cursors.{end_of, ahead}
+use Rattle.reading.specs.Cursors.{ahead}
 use Rattle.reading.specs.Parts.{nested_of}
 use Rattle.reading.proofs.Stages.{start, go, push, call, done, broken, ready}
 use Rattle.reading.proofs.functions.read_function.Goals as goal

@@ -1,14 +1,11 @@
 -- The first parameter, and the others behind a comma, or the closing parenthesis.
-use Rattle.std.proofs.Common.{◌≡◌, ℕ, suc, ◌-◌, ◌<◌, List, [], ◌∷◌, length, Ok, Err, codes, sym, refl, ap, ◌∙◌, arith, rules}
+use Rattle.std.proofs.Common.{◌-◌, [], ◌∷◌, codes, sym, refl, ap, ◌∙◌, arith}
 use Rattle.std.proofs.lemmas.Result.{MatchResult-weaker, err_from_is_err_and}
 use Rattle.std.proofs.lemmas.Option.{MatchOption-at_some, MatchOption-at_none}
-use Rattle.lexing.specs.declared.token.Kind.TheVariants.{Keyword, Mark}
-use Rattle.language.specs.Reading.{then, name_of, atom_of, param_of, mark_of, commas}
+use Rattle.language.specs.Reading.{then, param_of, mark_of, commas}
 use Rattle.language.specs.Nesting.{most_lists}
-use Rattle.draft.specs.Items.{ident, items_each, items_atom, items_param}
 use Rattle.reading.specs.Cursors.{end_of, ahead}
-use Rattle.reading.specs.Parts.{items_region}
-use Rattle.reading.proofs.Stages.{start, go, push, call, done, broken, atom-told}
+use Rattle.reading.proofs.Stages.{start, go, call, done, broken}
 use Rattle.reading.proofs.Forms.{commas-is, commas-then, commas-met, commas-missed}
 use Rattle.reading.proofs.lists.+read_some_parameters.Goals as goal
 

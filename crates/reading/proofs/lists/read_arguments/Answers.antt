@@ -1,12 +1,10 @@
 -- Nothing in the parentheses, or one element and more.
-use Rattle.std.proofs.Common.{◌≡◌, ℕ, suc, ◌-◌, ◌<◌, List, [], ◌∷◌, length, Ok, Err, codes, sym, refl, ap, ◌∙◌, arith, rules}
-use Rattle.std.proofs.lemmas.Result.{MatchResult-weaker, err_from_is_err_and}
-use Rattle.std.proofs.lemmas.Option.{MatchOption-at_some, MatchOption-at_none}
-use Rattle.lexing.specs.declared.token.Kind.TheVariants.{Keyword, Mark}
-use Rattle.language.specs.Nesting.{most_lists}
-use Rattle.language.specs.Reading.{give, commas, atom_of, param_of}
-use Rattle.draft.specs.Items.{items_atom}
-use Rattle.reading.specs.Cursors.{end_of, ahead}
+use Rattle.std.proofs.Common.{[], codes, refl, ◌∙◌}
+use Rattle.std.proofs.lemmas.Result.{MatchResult-weaker}
+use Rattle.std.proofs.lemmas.Option.{MatchOption-at_none}
+use Rattle.lexing.specs.declared.token.Kind.TheVariants.{Mark}
+use Rattle.language.specs.Reading.{give, commas, atom_of}
+use Rattle.reading.specs.Cursors.{end_of}
 use Rattle.reading.proofs.Steps.{on-other}
 use Rattle.reading.proofs.Stages.{start, call, done}
 use Rattle.reading.proofs.lists.read_arguments.Goals as goal

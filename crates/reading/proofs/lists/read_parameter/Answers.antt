@@ -1,13 +1,11 @@
 -- A name, and its type.
-use Rattle.std.proofs.Common.{◌≡◌, ℕ, suc, ◌-◌, ◌<◌, List, [], ◌∷◌, length, Ok, Err, codes, sym, refl, ap, ◌∙◌, arith, rules}
-use Rattle.std.proofs.lemmas.Result.{MatchResult-weaker, err_from_is_err_and}
-use Rattle.std.proofs.lemmas.Option.{MatchOption-at_some, MatchOption-at_none}
-use Rattle.lexing.specs.declared.token.Kind.TheVariants.{Keyword, Mark}
+use Rattle.std.proofs.Common.{sym, refl, ap, ◌∙◌, rules}
+use Rattle.std.proofs.lemmas.Result.{MatchResult-weaker}
 use Rattle.language.specs.Nesting.{most_lists}
-use Rattle.language.specs.Reading.{then, name_of, mark_of, type_of}
+use Rattle.language.specs.Reading.{type_of}
 use Rattle.draft.specs.declared.command.Command.TheVariants.{Parameter}
-use Rattle.draft.specs.Items.{ident, items_param}
-use Rattle.reading.specs.Cursors.{end_of, ahead}
+use Rattle.draft.specs.Items.{ident}
+use Rattle.reading.specs.Cursors.{ahead}
 use Rattle.reading.proofs.Stages.{start, go, push, call, done}
 use Rattle.reading.proofs.lists.read_parameter.Goals as goal
 

@@ -1,12 +1,10 @@
 -- The regions in brackets, or none.
-use Rattle.std.proofs.Common.{◌≡◌, ℕ, suc, ◌-◌, ◌<◌, List, [], ◌∷◌, length, Ok, Err, codes, sym, refl, ap, ◌∙◌, arith, rules}
+use Rattle.std.proofs.Common.{suc, [], length, codes, sym, refl, ap, ◌∙◌, arith}
 use Rattle.std.proofs.lemmas.Result.{MatchResult-weaker, err_from_is_err_and}
-use Rattle.std.proofs.lemmas.Option.{MatchOption-at_some, MatchOption-at_none}
-use Rattle.lexing.specs.declared.token.Kind.TheVariants.{Keyword, Mark}
+use Rattle.std.proofs.lemmas.Option.{MatchOption-at_some}
+use Rattle.lexing.specs.declared.token.Kind.TheVariants.{Mark}
 use Rattle.language.specs.Reading.{then, give, mark_of, name_of, commas, bracketed}
-use Rattle.draft.specs.Items.{items_each}
 use Rattle.reading.specs.Cursors.{end_of, ahead}
-use Rattle.reading.specs.Parts.{items_region}
 use Rattle.reading.proofs.Steps.{on-met}
 use Rattle.reading.proofs.Stages.{start, go, call, done, broken}
 use Rattle.reading.proofs.lists.read_regions.Goals as goal

@@ -1,9 +1,9 @@
 -- The tokens pass, and then the functions are read from the first one on.
-use Rattle.std.proofs.Common.{◌≡◌, ℕ, suc, [], ◌++◌, length, Ok, Err, sym, refl, ap, ◌∙◌, append-nil, arith}
+use Rattle.std.proofs.Common.{◌≡◌, suc, [], ◌++◌, length, Ok, sym, refl, ap, ◌∙◌, append-nil, arith}
 use Rattle.std.proofs.lemmas.Result.{MatchResult-weaker, err_from_is_err_and}
 use Rattle.language.specs.Reading.{funs}
 use Rattle.draft.specs.Items.{items, items_of}
-use Rattle.reading.specs.Cursors.{ahead, tokens_left, end_of, refused}
+use Rattle.reading.specs.Cursors.{ahead, tokens_left}
 use Rattle.reading.specs.Parts.{function_of}
 use Rattle.reading.proofs.Texts.{scanned, counted-err, reading-err, reading-ok, broken_fill}
 use Rattle.reading.proofs.read.fill.Goals as goal

@@ -1,12 +1,10 @@
 -- The function's name, the regions handed over, and the arguments.
-use Rattle.std.proofs.Common.{◌≡◌, ℕ, suc, ◌-◌, ◌<◌, List, [], ◌∷◌, length, Ok, Err, codes, sym, refl, ap, ◌∙◌, arith, rules}
+use Rattle.std.proofs.Common.{suc, length, sym, refl, ap, ◌∙◌, arith, rules}
 use Rattle.std.proofs.lemmas.Result.{MatchResult-weaker, err_from_is_err_and}
-use Rattle.std.proofs.lemmas.Option.{MatchOption-at_some, MatchOption-at_none}
-use Rattle.lexing.specs.declared.token.Kind.TheVariants.{Keyword, Mark}
 use Rattle.language.specs.Syntax.{call as a-call-of}
-use Rattle.language.specs.Reading.{then, give, name_of, regions, elements, atom_of, call_of}
+use Rattle.language.specs.Reading.{regions, elements, atom_of, call_of}
 use Rattle.draft.specs.declared.command.Command.TheVariants.{Call}
-use Rattle.draft.specs.Items.{ident, items_right}
+use Rattle.draft.specs.Items.{ident}
 use Rattle.reading.specs.Cursors.{end_of, ahead}
 use Rattle.reading.specs.Parts.{behind_word}
 use Rattle.reading.proofs.Stages.{start, go, push, call, done, broken, ready}

@@ -1,16 +1,10 @@
 -- The region, and two atoms.
-use Rattle.std.proofs.Common.{◌≡◌, ℕ, suc, ◌-◌, ◌<◌, List, [], ◌∷◌, length, Ok, Err, codes, sym, refl, ap, ◌∙◌, arith, rules}
-use Rattle.std.proofs.lemmas.Result.{MatchResult-weaker, err_from_is_err_and}
-use Rattle.std.proofs.lemmas.Option.{MatchOption-at_some, MatchOption-at_none}
-use Rattle.lexing.specs.declared.token.Kind.TheVariants.{Keyword, Mark}
+use Rattle.std.proofs.Common.{◌∷◌, ap, ◌∙◌, rules}
 use Rattle.language.specs.Syntax.{cons}
-use Rattle.language.specs.Reading.{then, give, mark_of, atom_of, cons_of}
 use Rattle.draft.specs.declared.command.Command.TheVariants.{Cons}
 use Rattle.draft.specs.Items.{ident, items_atom, a_cons}
-use Rattle.reading.specs.Cursors.{end_of, ahead, opened_of}
-use Rattle.reading.specs.Parts.{behind_word}
+use Rattle.reading.specs.Cursors.{end_of}
 use Rattle.reading.proofs.Stages.{start, go, push, done, atom-told}
-use Rattle.reading.proofs.Forms.{opened-then}
 use Rattle.reading.proofs.sides.read_cons.Goals as goal
 
 pub returns : goal.returns

@@ -1,9 +1,7 @@
 -- The region, and the type of the elements.
-use Rattle.std.proofs.Common.{◌≡◌, ℕ, suc, ◌-◌, ◌<◌, List, [], ◌∷◌, length, Ok, Err, codes, sym, refl, ap, ◌∙◌, arith, rules}
+use Rattle.std.proofs.Common.{Ok, codes, sym, refl, ap, ◌∙◌}
 use Rattle.std.proofs.lemmas.Result.{MatchResult-weaker, err_from_is_err_and}
-use Rattle.std.proofs.lemmas.Option.{MatchOption-at_some, MatchOption-at_none}
-use Rattle.lexing.specs.declared.token.Kind.TheVariants.{Keyword, Mark}
-use Rattle.language.specs.Syntax.{Ident, nil}
+use Rattle.language.specs.Syntax.{nil}
 use Rattle.language.specs.Nesting.{most_lists}
 use Rattle.language.specs.Reading.{then, give, mark_of, type_of, nil_of}
 use Rattle.draft.specs.declared.command.Command.TheVariants.{Nil}
@@ -11,7 +9,7 @@ use Rattle.draft.specs.Items.{ident}
 use Rattle.reading.specs.Cursors.{end_of, ahead, opened_of}
 use Rattle.reading.specs.Parts.{behind_word}
 use Rattle.reading.proofs.Stages.{start, go, push, call, done, broken}
-use Rattle.reading.proofs.Forms.{opened-then, nil-reads}
+use Rattle.reading.proofs.Forms.{nil-reads}
 use Rattle.reading.proofs.sides.read_nil.Goals as goal
 
 pub returns-in_err-close : goal.returns-in_err-close

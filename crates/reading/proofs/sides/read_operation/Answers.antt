@@ -1,14 +1,8 @@
 -- The word, and two atoms.
-use Rattle.std.proofs.Common.{◌≡◌, ℕ, suc, ◌-◌, ◌<◌, List, [], ◌∷◌, length, Ok, Err, codes, sym, refl, ap, ◌∙◌, arith, rules}
-use Rattle.std.proofs.lemmas.Result.{MatchResult-weaker, err_from_is_err_and}
-use Rattle.std.proofs.lemmas.Option.{MatchOption-at_some, MatchOption-at_none}
-use Rattle.lexing.specs.declared.token.Kind.TheVariants.{Keyword, Mark}
+use Rattle.std.proofs.Common.{◌∷◌, ap, ◌∙◌, rules}
 use Rattle.language.specs.Syntax.{oper}
-use Rattle.language.specs.Reading.{operands}
 use Rattle.draft.specs.declared.command.Command.TheVariants.{Operate}
-use Rattle.draft.specs.Items.{operator, items_atom, items_right, an_operation}
-use Rattle.reading.specs.Cursors.{end_of, ahead}
-use Rattle.reading.specs.Parts.{behind_word}
+use Rattle.draft.specs.Items.{operator, items_atom, an_operation}
 use Rattle.reading.proofs.Stages.{start, go, push, atom-told, done}
 use Rattle.reading.proofs.sides.read_operation.Goals as goal
 

@@ -1,15 +1,14 @@
 -- `int`, or `list` with its region and the type inside, as far as the allowance goes.
-use Rattle.std.proofs.Common.{◌≡◌, ℕ, suc, ◌-◌, ◌<◌, List, [], ◌∷◌, length, Ok, Err, codes, sym, refl, ap, ◌∙◌, arith, rules}
+use Rattle.std.proofs.Common.{◌-◌, Err, sym, refl, ap, ◌∙◌, arith, rules}
 use Rattle.std.proofs.lemmas.Result.{MatchResult-weaker, err_from_is_err_and}
 use Rattle.std.proofs.lemmas.Option.{MatchOption-at_some, MatchOption-at_none}
-use Rattle.lexing.specs.declared.token.Kind.TheVariants.{Keyword, Mark}
 use Rattle.language.specs.Syntax.{int, list}
-use Rattle.language.specs.Reading.{then, mark_of, type_of}
+use Rattle.language.specs.Reading.{then, type_of}
 use Rattle.draft.specs.declared.command.Command.TheVariants.{Int, List as ListCommand}
-use Rattle.draft.specs.Items.{ident, items_type}
+use Rattle.draft.specs.Items.{ident}
 use Rattle.reading.specs.Cursors.{end_of, ahead, refused, opened_of}
 use Rattle.reading.proofs.Stages.{start, go, push, call, done, broken}
-use Rattle.reading.proofs.Forms.{type-int, type-refused, type-list, list-reads, list-then, closes}
+use Rattle.reading.proofs.Forms.{type-int, type-refused, type-list, list-reads, list-then}
 use Rattle.reading.proofs.types.+read_type.Goals as goal
 
 pub returns-in-Some : goal.returns-in-Some

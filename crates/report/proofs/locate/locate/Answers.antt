@@ -1,5 +1,5 @@
 -- A line feed or another byte, and the end.
-use mathlib.Core.Path.{◌≡◌, sym, ap, ◌∙◌}
+use mathlib.Core.Path.{ap, ◌∙◌}
 use native.Mathlib.Omega.{arith}
 use lib.ListN.{take}
 use Rattle.report.specs.Positions.{position_of}

@@ -1,5 +1,5 @@
 -- A variable in scope.
-use Rattle.std.proofs.Common.{◌≡◌, ◌+◌, ◌∷◌, drop, sym, ap, ◌∙◌}
+use Rattle.std.proofs.Common.{◌+◌, ◌∷◌, drop, sym, ap, ◌∙◌}
 use Rattle.draft.specs.Items.{item, text_of, items}
 use Rattle.resolving.proofs.Slots.{variable-atom}
 use Rattle.resolving.proofs.atoms.atom.Goals as goal

@@ -1,5 +1,5 @@
 -- Inside, the default does not matter.
-use Rattle.std.proofs.Common.{◌≡◌, List, get_or, take, ap, ◌∙◌}
+use Rattle.std.proofs.Common.{List, get_or, take, ap, ◌∙◌}
 use Rattle.std.proofs.lemmas.List.{get_or_default}
 use Rattle.scope.specs.declared.search.Variable.{Variable}
 use Rattle.scope.specs.declared.types.Sort.TheVariants.{Int}

@@ -1,8 +1,8 @@
 -- One more, or none.
-use Rattle.std.proofs.Common.{◌≡◌, sym, ap, ◌∙◌, arith}
+use Rattle.std.proofs.Common.{sym, ◌∙◌, arith}
 use Rattle.draft.specs.Items.{text_of}
 use Rattle.resolving.proofs.Calling.{argue_more, argue_none, no-block_variable, no-block_number, no-atom, no-atom_here}
-use Rattle.resolving.proofs.Fronts.{front_item, front_none, front_kept}
+use Rattle.resolving.proofs.Fronts.{front_kept}
 use Rattle.resolving.proofs.calls.+argue.Goals as goal
 
 pub returns-in-Variable : goal.returns-in-Variable

@@ -1,6 +1,6 @@
 -- One more, or none.
-use Rattle.std.proofs.Common.{◌≡◌, ◌+◌, ◌∷◌, drop, sym, ap, ◌∙◌, arith}
-use Rattle.draft.specs.Items.{item, text_of, items}
+use Rattle.std.proofs.Common.{arith}
+use Rattle.draft.specs.Items.{text_of}
 use Rattle.resolving.proofs.Calling.{hand_more, hand_none}
 use Rattle.resolving.proofs.Fronts.{front_item, front_none, front_kept}
 use Rattle.resolving.proofs.Others.{no-handed}

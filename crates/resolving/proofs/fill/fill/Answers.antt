@@ -1,5 +1,5 @@
 -- What the functions lay down is the script's code, and so sound.
-use Rattle.std.proofs.Common.{◌≡◌, sym, subst, inr}
+use Rattle.std.proofs.Common.{sym, subst, inr}
 use mathlib.Core.Logic.{∥∥₁_map}
 use Rattle.program.specs.declared.code.Code.{Code}
 use Rattle.program.specs.Held.{Holds, Sound}

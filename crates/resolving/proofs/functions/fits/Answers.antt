@@ -1,5 +1,5 @@
 -- Behind the last room for a command stands none.
-use Rattle.std.proofs.Common.{◌≡◌, length, sym, ap, ◌∙◌, arith, length-drop}
+use Rattle.std.proofs.Common.{length, ap, arith, length-drop}
 use Rattle.draft.specs.Items.{items}
 use Rattle.resolving.proofs.functions.fits.Goals as goal
 

@@ -1,5 +1,4 @@
 -- One more, or none.
-use Rattle.std.proofs.Common.{◌≡◌, sym, ap, ◌∙◌, arith}
 use Rattle.draft.specs.Items.{text_of}
 use Rattle.resolving.proofs.Heading.{regions-more, regions-none}
 use Rattle.resolving.proofs.Fronts.{front_item, front_none, front_kept}

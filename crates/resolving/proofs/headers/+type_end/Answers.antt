@@ -1,5 +1,5 @@
 -- A type is words in a row and a last one.
-use Rattle.std.proofs.Common.{◌≡◌, sym, ap, ◌∙◌, arith}
+use Rattle.std.proofs.Common.{arith}
 use Rattle.draft.specs.Items.{item, text_of}
 use Rattle.resolving.proofs.Heading.{type-more, type-last, type-none}
 use Rattle.resolving.proofs.Fronts.{front_kept}

@@ -1,5 +1,5 @@
 -- Each way out of the search, and its step.
-use Rattle.std.proofs.Common.{◌≡◌, sym, ap, ◌∙◌, arith}
+use Rattle.std.proofs.Common.{sym, ap, ◌∙◌, arith}
 use Rattle.lexing.specs.Tokens.{same_bytes}
 use Rattle.draft.specs.Items.{text_of}
 use Rattle.scope.specs.Words.{bytes}

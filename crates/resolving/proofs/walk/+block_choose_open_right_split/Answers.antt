@@ -1,5 +1,5 @@
 -- Each arm of the walk, from what its calls ensure.
-use Rattle.std.proofs.Common.{◌≡◌, sym, ap, ◌∙◌, arith}
+use Rattle.std.proofs.Common.{sym, ◌∙◌, arith}
 use Rattle.draft.specs.Items.{text_of, ident}
 use Rattle.resolving.proofs.Fronts.{front_kept}
 use Rattle.resolving.proofs.Walking.{last-laid, print-laid, let_laid, choose_laid, open_laid, split-laid}

@@ -1,5 +1,4 @@
 -- The test of slices is the test of the definitions.
-use Rattle.std.proofs.Common.{◌≡◌}
 use Rattle.std.proofs.lemmas.Slice.Eq.{slice_eq-Decides}
 use Rattle.scope.proofs.Parts.{same_by}
 use Rattle.scope.proofs.name.same.Goals as goal

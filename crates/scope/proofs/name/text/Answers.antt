@@ -1,5 +1,5 @@
 -- The text as long as the table says, or as long as there is room.
-use Rattle.std.proofs.Common.{◌≡◌, min, length, take, sym, ap, ◌∙◌, arith}
+use Rattle.std.proofs.Common.{◌≡◌, min, length, take, ap, ◌∙◌, arith}
 use Rattle.scope.proofs.Parts.{take_min}
 use Rattle.scope.proofs.name.text.Goals as goal
 

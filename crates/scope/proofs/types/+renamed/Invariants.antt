@@ -1,6 +1,5 @@
 -- Fewer words are left at each step.
 use Rattle.std.proofs.Common.{◌-◌}
-use Rattle.scope.specs.Words.{left}
 use Rattle.scope.proofs.types.+renamed.Given as goal
 
 abbrev pub decreases-renamed : goal.decreases-renamed

@@ -1,5 +1,4 @@
 -- Fewer words are left at each step.
-use Rattle.std.proofs.Common.{◌-◌}
 use Rattle.scope.specs.Words.{left}
 use Rattle.scope.proofs.types.+same_sort.Given as goal
 

@@ -1,5 +1,5 @@
 use Rattle.std.proofs.Common.{◌≤◌, [], ◌∷◌, length, take, Ok, sym, refl, ap, ◌∙◌, arith}
-use Rattle.regions.specs.Rules.{capacity, arena_rule}
+use Rattle.regions.specs.Rules.{arena_rule}
 use Rattle.arena.proofs.Stretches.{put_none, put_full, put_room, used_length, used_at}
 use Rattle.arena.proofs.arena.ArenaRegionStore.put.Goals as goal
 

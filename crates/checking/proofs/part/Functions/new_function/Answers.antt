@@ -1,5 +1,5 @@
 -- Found, no room, or new.
-use Rattle.std.proofs.Common.{◌≡◌, true, false, List, take, drop, sym, refl, ap, ◌∙◌, arith}
+use Rattle.std.proofs.Common.{true, false, List, take, drop, sym, refl, ap, ◌∙◌, arith}
 use Rattle.std.specs.Option.{option_map}
 use Rattle.language.specs.Syntax.{Ident}
 use Rattle.language.specs.Scope.{find}

@@ -1,5 +1,5 @@
 -- One command more says one item more.
-use Rattle.std.proofs.Common.{take, refl, arith}
+use Rattle.std.proofs.Common.{refl, arith}
 use Rattle.draft.specs.Items.{item, text_of}
 use Rattle.draft.proofs.Told.{told_more}
 use Rattle.draft.proofs.table.Table.push.Goals as goal

@@ -1,5 +1,5 @@
 -- A name, or a numeral with its number.
-use Rattle.std.proofs.Common.{◌≡◌, ◌∷◌, Some, None, sym, refl, ap, ◌∙◌, w32, SFits, rules}
+use Rattle.std.proofs.Common.{◌∷◌, sym, refl, ap, ◌∙◌, w32, SFits, rules}
 use Rattle.std.proofs.lemmas.Int.{to_z-of_z}
 use Rattle.language.specs.Syntax.{var, num}
 use Rattle.draft.specs.Items.{a_variable}

@@ -1,5 +1,5 @@
 -- The mark, the name and the parenthesis, one behind the other.
-use Rattle.std.proofs.Common.{◌≡◌, length, Ok, Err, codes, sym, ap, ◌∙◌}
+use Rattle.std.proofs.Common.{length, Ok, codes, sym, ap, ◌∙◌}
 use Rattle.std.proofs.lemmas.Result.{err_from_is_err_and}
 use Rattle.language.specs.Reading.{then, give, mark_of, name_of}
 use Rattle.draft.specs.Items.{ident}

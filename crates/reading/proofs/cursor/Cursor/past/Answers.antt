@@ -1,6 +1,6 @@
 -- Behind the word, which is not the end.
-use Rattle.std.proofs.Common.{sym, ◌∙◌}
-use Rattle.reading.proofs.Steps.{starts_more, past}
+use Rattle.std.proofs.Common.{sym}
+use Rattle.reading.proofs.Steps.{starts_more}
 use Rattle.reading.proofs.cursor.Cursor.past.Goals as goal
 
 pub advance-requires : goal.advance-requires

@@ -1,5 +1,5 @@
 -- One more at the end.
-use Rattle.std.proofs.Common.{◌≡◌, take, set, refl, ap, ◌∙◌, add-one, arith, take-suc-set}
+use Rattle.std.proofs.Common.{take, set, refl, ap, ◌∙◌, add-one, arith, take-suc-set}
 use Rattle.resolving.proofs.functions.Entries.push.Goals as goal
 
 pub returns-then-self-lt64 : goal.returns-then-self-lt64

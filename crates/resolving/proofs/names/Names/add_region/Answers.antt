@@ -1,7 +1,7 @@
 -- One more at the end.
-use Rattle.std.proofs.Common.{◌≡◌, List, map, take, ap, arith}
+use Rattle.std.proofs.Common.{List, map, take, ap, arith}
 use Rattle.language.specs.Types.{Name}
-use Rattle.language.specs.Scope.{Scope, Variable}
+use Rattle.language.specs.Scope.{Scope}
 use Rattle.draft.specs.Items.{text_of}
 use Rattle.draft.proofs.Told.{told_more}
 use Rattle.scope.specs.Words.{bytes}

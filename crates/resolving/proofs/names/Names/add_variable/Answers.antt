@@ -1,6 +1,5 @@
 -- One more at the end.
-use Rattle.std.proofs.Common.{◌≡◌, List, map, take, ap, arith}
-use Rattle.language.specs.Types.{Name}
+use Rattle.std.proofs.Common.{List, map, take, ap, arith}
 use Rattle.language.specs.Scope.{Scope, Variable}
 use Rattle.draft.specs.Items.{text_of}
 use Rattle.draft.proofs.Told.{told_more}

@@ -1,8 +1,6 @@
 -- As many as there are entries.
-use Rattle.std.proofs.Common.{◌≡◌, length, take, sym, ap, ◌∙◌, arith}
+use Rattle.std.proofs.Common.{length, take, sym, ap, ◌∙◌, arith}
 use Rattle.std.proofs.lemmas.List.{length-map}
-use Rattle.draft.specs.Items.{text_of}
-use Rattle.scope.specs.Words.{bytes}
 use Rattle.resolving.specs.Walks.{variable_of}
 use Rattle.resolving.proofs.Rooms.{few-front}
 use Rattle.resolving.proofs.names.Names.free_slot.Goals as goal

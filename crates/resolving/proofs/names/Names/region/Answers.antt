@@ -1,5 +1,5 @@
 -- The index among the entries is the index among the names that they stand for.
-use Rattle.std.proofs.Common.{◌≡◌, take, sym, ap, ◌∙◌}
+use Rattle.std.proofs.Common.{take, sym, ap, ◌∙◌}
 use Rattle.draft.specs.Items.{text_of}
 use Rattle.scope.specs.Words.{bytes}
 use Rattle.program.specs.Compiled.{index}

@@ -1,5 +1,5 @@
 -- One more at the end.
-use Rattle.std.proofs.Common.{◌≡◌, take, set, refl, ap, ◌∙◌, add-one, arith, take-suc-set}
+use Rattle.std.proofs.Common.{take, set, refl, ap, ◌∙◌, add-one, arith, take-suc-set}
 use Rattle.resolving.proofs.tape.Tape.push.Goals as goal
 
 pub returns-then-self-lt4096 : goal.returns-then-self-lt4096

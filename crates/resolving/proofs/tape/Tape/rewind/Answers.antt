@@ -1,5 +1,5 @@
 -- What was laid down before stands at the front.
-use Rattle.std.proofs.Common.{◌≡◌, take, sym, ap, ◌∙◌, append-nil, arith}
+use Rattle.std.proofs.Common.{sym, ◌∙◌, append-nil, arith}
 use Rattle.resolving.specs.Walks.{laid}
 use Rattle.resolving.proofs.Growth.{set_back}
 use Rattle.resolving.proofs.tape.Tape.rewind.Goals as goal

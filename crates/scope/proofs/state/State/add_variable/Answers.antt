@@ -1,12 +1,11 @@
 -- One more at the end, and all before it as it was.
-use Rattle.std.proofs.Common.{◌≡◌, List, map, take, refl, ap, arith}
+use Rattle.std.proofs.Common.{List, map, take, refl, ap, arith}
 use lib.Seq.{take-set-le}
-use Rattle.language.specs.Types.{Name}
 use Rattle.language.specs.Scope.{Scope, Variable}
 use Rattle.draft.specs.Items.{text_of}
 use Rattle.draft.proofs.Told.{told_more}
 use Rattle.scope.specs.Words.{bytes}
-use Rattle.scope.specs.Entries.{scope_of, variable_of}
+use Rattle.scope.specs.Entries.{variable_of}
 use Rattle.scope.proofs.state.State.add_variable.Goals as goal
 
 pub returns : goal.returns

@@ -1,11 +1,11 @@
 -- Found or not.
-use Rattle.std.proofs.Common.{◌≡◌, true, false, take, Some, None, sym, refl, ap, ◌∙◌, arith}
+use Rattle.std.proofs.Common.{take, sym, ap, ◌∙◌}
 use Rattle.std.specs.Option.{option_map}
-use Rattle.language.specs.Scope.{find, find_region, find_variable}
-use Rattle.draft.specs.Items.{text_of, items, ident}
-use Rattle.scope.specs.Words.{bytes, type_of}
-use Rattle.scope.specs.Entries.{scope_of, variable_of}
-use Rattle.scope.proofs.Scopes.{find-map, room, full, known_some, known-none, new-region_by, new-variable_by, variable-by}
+use Rattle.language.specs.Scope.{find}
+use Rattle.draft.specs.Items.{text_of, ident}
+use Rattle.scope.specs.Words.{bytes}
+use Rattle.scope.specs.Entries.{scope_of}
+use Rattle.scope.proofs.Scopes.{find-map, known_some, known-none}
 use Rattle.scope.proofs.state.State.known_region.Goals as goal
 
 pub returns-in-Some : goal.returns-in-Some

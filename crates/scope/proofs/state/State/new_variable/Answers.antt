@@ -1,11 +1,11 @@
 -- No room, found, or new.
-use Rattle.std.proofs.Common.{◌≡◌, true, false, take, Some, None, sym, refl, ap, ◌∙◌, arith}
+use Rattle.std.proofs.Common.{true, false, take, sym, refl, ap, ◌∙◌, arith}
 use Rattle.std.specs.Option.{option_map}
-use Rattle.language.specs.Scope.{find, find_region, find_variable}
-use Rattle.draft.specs.Items.{text_of, items, ident}
-use Rattle.scope.specs.Words.{bytes, type_of}
+use Rattle.language.specs.Scope.{find}
+use Rattle.draft.specs.Items.{text_of, ident}
+use Rattle.scope.specs.Words.{bytes}
 use Rattle.scope.specs.Entries.{scope_of, variable_of}
-use Rattle.scope.proofs.Scopes.{find-map, room, full, known_some, known-none, new-region_by, new-variable_by, variable-by}
+use Rattle.scope.proofs.Scopes.{find-map, room, full, new-variable_by}
 use Rattle.scope.specs.declared.types.Sort.{Sort}
 use Rattle.scope.proofs.state.State.new_variable.Goals as goal
 
