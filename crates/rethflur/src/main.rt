@@ -12,6 +12,7 @@ mod verdict;
 use command::Command;
 use failure::Failure;
 use input::Script;
+use std::process::ExitCode;
 
 const HELP: &str = "rethflur: the scripts of a driver kit
 
@@ -43,13 +44,13 @@ fn run(rt: &HostRuntime) -> Result<(), Failure> {
     }
 }
 
-fn main(rt: HostRuntime) -> Result<(), ()> {
+fn main(rt: HostRuntime) -> ExitCode {
     match run(&rt) {
-        Ok(()) => Ok(()),
-        Err(Failure::Shown) => Err(()),
+        Ok(()) => ExitCode::SUCCESS,
+        Err(Failure::Shown) => ExitCode::FAILURE,
         Err(failure) => {
             let _ = eprintln!(rt; "rethflur: {failure}");
-            Err(())
+            ExitCode::FAILURE
         }
     }
 }
