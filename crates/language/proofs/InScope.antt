@@ -1,6 +1,6 @@
 -- Wherever the walk over a well-typed script comes, types mention only regions in scope.
 use Rattle.std.proofs.Common.{◌≡◌, ℕ, Bool, true, false, ◌⊎◌, List, [], ◌∷◌, ◌++◌, length, is_some, Some, None, sym, refl, ap, ◌∙◌, subst, inl, inr, arith}
-use Rattle.std.specs.List.{AllByRecursion as All}
+use Rattle.std.specs.List.{AllByRecursion}
 use Rattle.std.proofs.ByRecursion.{All-push, All-weaker, All-map, all-has}
 use Rattle.std.proofs.lemmas.List.{length-map}
 use Rattle.lexing.specs.Tokens.{same_bytes}
@@ -16,10 +16,10 @@ use Rattle.language.proofs.Unique.{types_are_unique}
 
 -- each variable's type mentions only regions in scope
 abbrev pub Scoped : Scope → Type 0
-Scoped Γ = All (λ v. Within Γ v.type) Γ.variables
+Scoped Γ = AllByRecursion (λ v. Within Γ v.type) Γ.variables
 
 -- what holds of each entry holds of the one that is found
-found-holds : {A : Type 0} (P : A → Type 0) (name_of : A → Name) (n : Name) (es : List A) (x : A) → All P es → find name_of n es ≡ Some x → P x
+found-holds : {A : Type 0} (P : A → Type 0) (name_of : A → Name) (n : Name) (es : List A) (x : A) → AllByRecursion P es → find name_of n es ≡ Some x → P x
 found-holds P name_of n [] x h e = absurd (let z : ◌≡◌ {A = ℕ} 0 1 = cc in omega arith)
 found-holds {A} P name_of n (y ∷ es) x h e = go (same_bytes (name_of y) n) e (found-holds P name_of n es x h.1)
   where
@@ -68,7 +68,7 @@ within-tail : (Γ : Scope) (r : Name) (T : RegionType) → Within Γ (list r T) 
 within-tail Γ r T w s m = w s (or_later (same_bytes r s) _ m)
 
 -- a name of the callee's header becomes a region known at the call
-renamed-known : (Γ : Scope) (os : List Name) (rs : List Ident) (s : Name) → length rs ≡ length os → All (λ r. KnownRegion Γ r.name) rs →
+renamed-known : (Γ : Scope) (os : List Name) (rs : List Ident) (s : Name) → length rs ≡ length os → AllByRecursion (λ r. KnownRegion Γ r.name) rs →
     is_some (find (λ t. t) s os) ≡ true → KnownRegion Γ (renamed os (names rs) s)
 renamed-known Γ [] rs s l hs e = absurd (true_false (sym e))
 renamed-known Γ (o ∷ os) [] s l hs e = absurd (omega arith)
@@ -80,14 +80,14 @@ renamed-known Γ (o ∷ os) (r ∷ rs) s l hs e = go (same_bytes o s) e (renamed
     go true f later = hs.0
     go false f later = later f
 
-replaced-within : (Γ Δ : Scope) (rs : List Ident) (T : RegionType) → length rs ≡ length Δ.regions → All (λ r. KnownRegion Γ r.name) rs → Within Δ T →
+replaced-within : (Γ Δ : Scope) (rs : List Ident) (T : RegionType) → length rs ≡ length Δ.regions → AllByRecursion (λ r. KnownRegion Γ r.name) rs → Within Δ T →
     Within Γ (replaced Δ.regions (names rs) T)
 replaced-within Γ Δ rs int l hs w = within-int Γ
 replaced-within Γ Δ rs (list r T) l hs w =
     within-list Γ (renamed Δ.regions (names rs) r) (replaced Δ.regions (names rs) T)
     (renamed-known Γ Δ.regions rs r l hs (within-head Δ r T w)) (replaced-within Γ Δ rs T l hs (within-tail Δ r T w))
 
-call-within : (Γ : Scope) (f : Fun) (rs : List Ident) (t : Ty) → length rs ≡ length f.regions → All (λ r. KnownRegion Γ r.name) rs → Within (header_scope f) (unplaced t) →
+call-within : (Γ : Scope) (f : Fun) (rs : List Ident) (t : Ty) → length rs ≡ length f.regions → AllByRecursion (λ r. KnownRegion Γ r.name) rs → Within (header_scope f) (unplaced t) →
     Within Γ (at_call f rs t)
 call-within Γ f rs t l hs w = replaced-within Γ (header_scope f) rs (unplaced t) (l ∙ sym (length-map f.regions (λ r. r.name))) hs w
 
@@ -102,7 +102,7 @@ atom-within {Γ} h (variable_has {x = x} {v = v} e is) = subst (Within Γ) is (f
 atom-within {Γ} h numeral_has = within-int Γ
 
 mutual
-  right_within : {F : Script} {Γ : Scope} {r : Right} {T : RegionType} → All TypedHeader F → Scoped Γ → TypedRight F Γ r T → Within Γ T
+  right_within : {F : Script} {Γ : Scope} {r : Right} {T : RegionType} → AllByRecursion TypedHeader F → Scoped Γ → TypedRight F Γ r T → Within Γ T
   right_within H h (atom_has k) = atom-within h k
   right_within {Γ = Γ} H h (oper_has k l) = within-int Γ
   right_within {Γ = Γ} H h (nil_has {r = r} {t = t} k w d) = within-list Γ r.name (unplaced t) k w
@@ -113,16 +113,16 @@ mutual
   right_within {Γ = Γ} H h (region_has {r = r} {T = T} n k m) = within-shorter Γ r T (block_within H (scoped_region Γ r h) k) m
   right_within H h (split_has k l m n o) = block_within H h l
 
-  block_within : {F : Script} {Γ : Scope} {b : Block} {T : RegionType} → All TypedHeader F → Scoped Γ → TypedBlock F Γ b T → Within Γ T
+  block_within : {F : Script} {Γ : Scope} {b : Block} {T : RegionType} → AllByRecursion TypedHeader F → Scoped Γ → TypedBlock F Γ b T → Within Γ T
   block_within H h (last_has k) = atom-within h k
   block_within {Γ = Γ} H h (bind_has {x = x} {S = S} n k l) = block_within H (scoped_more Γ x S h (right_within H h k)) l
   block_within H h (print_has k l) = block_within H h l
 
-pub headers-each : {G fs : Script} → TypedHeaders G fs → All TypedHeader fs
+pub headers-each : {G fs : Script} → TypedHeaders G fs → AllByRecursion TypedHeader fs
 headers-each no_headers = tt
 headers-each (more_headers new room h hs) = (h, headers-each hs)
 
-params-within : {Γ : Scope} {qs : List Param} → NewParams Γ qs → All (λ q. Within Γ (unplaced q.type)) qs
+params-within : {Γ : Scope} {qs : List Param} → NewParams Γ qs → AllByRecursion (λ q. Within Γ (unplaced q.type)) qs
 params-within no_new_params = tt
 params-within (more_new_params h w hs) = (w, params-within hs)
 
@@ -135,7 +135,7 @@ pub record Stands (F : Script) (Γ : Scope) (b : Block) : Type 0 where
   pub type : RegionType
   pub typed : TypedBlock F Γ b type
 
-let_stands : {F : Script} {Γ : Scope} {x : Ident} {r : Right} {b : Block} {S T : RegionType} → All TypedHeader F → Scoped Γ → TypedBlock F Γ (bind x r b) T → TypedRight F Γ r S → Stands F (with_variable Γ x S) b
+let_stands : {F : Script} {Γ : Scope} {x : Ident} {r : Right} {b : Block} {S T : RegionType} → AllByRecursion TypedHeader F → Scoped Γ → TypedBlock F Γ (bind x r b) T → TypedRight F Γ r S → Stands F (with_variable Γ x S) b
 let_stands {F} {Γ} {x} {r} {b} {S} {T} H h (bind_has {S = S'} n k l) t =
     record {
       scoped = scoped_more Γ x S h (right_within H h t);

@@ -2,7 +2,7 @@
 use Rattle.std.proofs.Common.{◌≡◌, ℕ, ◌<◌, ◌≤◌, Bool, true, false, eqb, ltb, leb, List, [], ◌∷◌, ◌++◌, map, length, Some, None, Ok, codes, Option, sym, refl, ◌∙◌, subst, arith}
 use Rattle.std.proofs.lemmas.List.{length-map}
 use Rattle.std.proofs.lemmas.Bool.Decides.{nat_tests}
-use Rattle.std.specs.List.{AllByRecursion as All}
+use Rattle.std.specs.List.{AllByRecursion}
 use Rattle.lexing.specs.Tokens.{same_bytes}
 use Rattle.language.specs.Syntax.{Ident, Ty, Atom, var, num, Right, atom, oper, nil, cons, call, test, region, split, Block, last, bind, print, Param, Fun, Script}
 use Rattle.language.specs.Types.{Name, RegionType, int, list, unplaced, mentions, depth, deepest}
@@ -34,7 +34,7 @@ new-variable_is e =
 known_is : {n : Name} (Γ : Scope) (r : Ident) → known_region Γ r ≡ Ok n → KnownRegion Γ r.name
 known_is Γ r e = let f = found-is (find_region Γ r.name) r.place e in rw f
 
-knowns_are : {u : Unit {0}} (Γ : Scope) (rs : List Ident) → known_regions Γ rs ≡ Ok u → All (λ r. KnownRegion Γ r.name) rs
+knowns_are : {u : Unit {0}} (Γ : Scope) (rs : List Ident) → known_regions Γ rs ≡ Ok u → AllByRecursion (λ r. KnownRegion Γ r.name) rs
 knowns_are Γ [] e = tt
 knowns_are Γ (r ∷ rs) e = let (n, p, q) = after (known_region Γ r) _ e in (known_is Γ r p, knowns_are Γ rs q)
 
@@ -193,7 +193,7 @@ body_is F f e =
     let (T, p, q) = bound (type_block F (header_scope f) f.body) _ e in
     subst (TypedBlock F (header_scope f) f.body) (same-type_is T (unplaced f.result) (asked _ _ _ q)) (block_is f.body p)
 
-bodies-are : {u : Unit {0}} (F fs : Script) → check_bodies F fs ≡ Ok u → All (TypedBody F) fs
+bodies-are : {u : Unit {0}} (F fs : Script) → check_bodies F fs ≡ Ok u → AllByRecursion (TypedBody F) fs
 bodies-are F [] e = tt
 bodies-are F (f ∷ fs) e = let (u, p, q) = after (check_body F f) _ e in (body_is F f p, bodies-are F fs q)
 

@@ -1,7 +1,7 @@
 -- What is well typed passes checking.
 use Rattle.std.proofs.Common.{◌≡◌, ℕ, ◌<◌, ◌≤◌, Bool, true, false, eqb, ltb, leb, List, [], ◌∷◌, map, length, None, Ok, refl, ap, ◌∙◌, arith}
 use Rattle.std.proofs.lemmas.Bool.Decides.{nat_tests}
-use Rattle.std.specs.List.{AllByRecursion as All}
+use Rattle.std.specs.List.{AllByRecursion}
 use Rattle.lexing.specs.Tokens.{same_bytes}
 use Rattle.language.specs.Syntax.{Ident, Ty, Atom, Right, Block, Param, Fun, Script}
 use Rattle.language.specs.Types.{Name, RegionType, int, unplaced, deepest}
@@ -27,7 +27,7 @@ new-variable_says most Γ x h = then-says (ask-says _ 10 _ (below_says _ _ h.roo
 known-says : (Γ : Scope) (r : Ident) → KnownRegion Γ r.name → (n : Name) × (known_region Γ r ≡ Ok n)
 known-says Γ r h = let (n, e) = some_is (find_region Γ r.name) h in (n, found-says r.place e)
 
-knowns_say : (Γ : Scope) (rs : List Ident) → All (λ r. KnownRegion Γ r.name) rs → known_regions Γ rs ≡ Ok tt
+knowns_say : (Γ : Scope) (rs : List Ident) → AllByRecursion (λ r. KnownRegion Γ r.name) rs → known_regions Γ rs ≡ Ok tt
 knowns_say Γ [] hs = refl
 knowns_say Γ (r ∷ rs) hs = then-says (known-says Γ r hs.0).1 (knowns_say Γ rs hs.1)
 
@@ -110,7 +110,7 @@ headers-say (more_headers {G = G} {f = f} new room h hs) = then-says (header_say
 body-says : (F : Script) (f : Fun) → TypedBody F f → check_body F f ≡ Ok tt
 body-says F f h = bind-says _ (block_says h) (ask-says _ 13 (last_place f.body) (same-type_refl (unplaced f.result)))
 
-bodies-say : (F fs : Script) → All (TypedBody F) fs → check_bodies F fs ≡ Ok tt
+bodies-say : (F fs : Script) → AllByRecursion (TypedBody F) fs → check_bodies F fs ≡ Ok tt
 bodies-say F [] hs = refl
 bodies-say F (f ∷ fs) hs = then-says (body-says F f hs.0) (bodies-say F fs hs.1)
 

@@ -1,6 +1,6 @@
 -- The rules of region typing, after Tofte and Talpin: when an atom, a right side, a block has a type in a scope Γ of a script F, and when F is well typed.
 use Rattle.std.specs.Prelude.{◌≡◌, ℕ, ◌<◌, ◌≤◌, true, false, List, [], ◌∷◌, ◌++◌, map, length, ℤ, is_some, Some, None, codes}
-use Rattle.std.specs.List.{AllByRecursion as All}
+use Rattle.std.specs.List.{AllByRecursion}
 use Rattle.language.specs.Syntax.{Ident, Ty, Atom, var, num, Op, Right, atom, oper, nil, cons, call, test, region, split, Block, last, bind, print, Param, Fun, Script}
 use Rattle.language.specs.Types.{Name, RegionType, int, list, unplaced, mentions, depth, deepest, replaced}
 use Rattle.language.specs.Scope.{most_functions, most_params, most_regions, most_variables, Scope, Variable, find_variable, find_region, find_function, with_variable, with_region, names, region_scope, header_scope, empty_scope}
@@ -56,7 +56,7 @@ mutual
         KnownRegion Γ r.name → TypedAtom Γ a T → TypedAtom Γ b (list r.name T) → TypedRight F Γ (cons p r a b) (list r.name T)
     -- a call hands over as many regions as the function has; each atom has its parameter's type, seen from the call, and the call the result type
     call_has : {Γ : Scope} {p : ℕ} {g : Ident} {rs : List Ident} {args : List Atom} {f : Fun} {T : RegionType} →
-        find_function F g.name ≡ Some f → length rs ≡ length f.regions → All (λ r. KnownRegion Γ r.name) rs → TypedAtoms Γ args (needed f rs) →
+        find_function F g.name ≡ Some f → length rs ≡ length f.regions → AllByRecursion (λ r. KnownRegion Γ r.name) rs → TypedAtoms Γ args (needed f rs) →
         at_call f rs f.result ≡ T → TypedRight F Γ (call p g rs args) T
     -- `if` takes an int, and both blocks have one type
     test_has : {Γ : Scope} {p : ℕ} {a : Atom} {b c : Block} {T : RegionType} → TypedAtom Γ a int → TypedBlock F Γ b T → TypedBlock F Γ c T → TypedRight F Γ (test p a b c) T
@@ -115,4 +115,4 @@ pub record Main (f : Fun) : Type 0 where
 pub record TypedScript (F : Script) : Type 0 where
   pub headers : TypedHeaders [] F
   pub main_is : (f : Fun) × (find_function F (codes "main") ≡ Some f) × Main f
-  pub bodies : All (TypedBody F) F
+  pub bodies : AllByRecursion (TypedBody F) F

@@ -1,6 +1,6 @@
 -- What holds of the typing rules and of checking.
 use Rattle.std.specs.Prelude.{◌≡◌, ℕ, ◌≤◌, ◌⊎◌, ◌↔◌, List, [], ◌∷◌, map, length, None, Ok, Err}
-use Rattle.std.specs.List.{ContainsAt as Has, AllByRecursion as All}
+use Rattle.std.specs.List.{ContainsAt as Has, AllByRecursion}
 use Rattle.language.specs.Verdict.{Refused}
 use Rattle.language.specs.Syntax.{Ident, Atom, Right, test, region, split, Block, bind, print, Fun, Script}
 use Rattle.language.specs.Types.{Name, RegionType, list}
@@ -39,7 +39,7 @@ pub data Reached (F : Script) : Scope → Block → Type 0 where
 -- wherever the walk over a well-typed script comes, every variable's type mentions only regions in scope, and so does the block's own
 abbrev pub TypesStayInScope : Type 0
 TypesStayInScope = (F : Script) → TypedScript F → (Γ : Scope) (b : Block) → Reached F Γ b →
-    All (λ v. Within Γ v.type) Γ.variables × ((T : RegionType) × TypedBlock F Γ b T × Within Γ T)
+    AllByRecursion (λ v. Within Γ v.type) Γ.variables × ((T : RegionType) × TypedBlock F Γ b T × Within Γ T)
 
 -- no two names of a list are the same
 abbrev pub Apart : List Name → Type 0
@@ -50,6 +50,6 @@ Apart (n ∷ ns) = (find (λ m. m) n ns ≡ None) × Apart ns
 -- wherever the walk comes, at most 8 regions and 32 variables are in scope, no two regions and no two variables of one name
 abbrev pub ScopesKeepLimits : Type 0
 ScopesKeepLimits = (F : Script) → TypedScript F →
-    ((length F ≤ 64) × Apart (map (λ f. f.name.name) F) × All (λ f. length f.params ≤ 8) F) ×
+    ((length F ≤ 64) × Apart (map (λ f. f.name.name) F) × AllByRecursion (λ f. length f.params ≤ 8) F) ×
     ((Γ : Scope) (b : Block) → Reached F Γ b →
     (length Γ.regions ≤ 8) × Apart Γ.regions × (length Γ.variables ≤ 32) × Apart (map (λ v. v.name) Γ.variables))

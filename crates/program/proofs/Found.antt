@@ -1,6 +1,6 @@
 -- What is found by name has an index below the length of the list, and what holds of all entries holds of it.
 use Rattle.std.proofs.Common.{◌≡◌, ℕ, suc, ◌+◌, ◌<◌, Bool, true, false, List, [], ◌∷◌, length, Some, Option, refl, subst, arith}
-use Rattle.std.specs.List.{AllByRecursion as All}
+use Rattle.std.specs.List.{AllByRecursion}
 use Rattle.lexing.specs.Tokens.{same_bytes}
 use Rattle.language.specs.Syntax.{Fun}
 use Rattle.language.specs.Types.{Name}
@@ -18,7 +18,7 @@ index-found {A} key n (y ∷ es) x e = go (same_bytes (key y) n) e (index-found 
     go true f later = omega arith
     go false f later = omega (arith, later f)
 
-pub found_all : {A : Type 0} (P : A → Type 0) (key : A → Name) (n : Name) (es : List A) (x : A) → All P es → find key n es ≡ Some x → P x
+pub found_all : {A : Type 0} (P : A → Type 0) (key : A → Name) (n : Name) (es : List A) (x : A) → AllByRecursion P es → find key n es ≡ Some x → P x
 found_all P key n [] x h e = absurd (let z : ◌≡◌ {A = ℕ} 0 1 = cc in omega arith)
 found_all {A} P key n (y ∷ es) x h e = go (same_bytes (key y) n) e (found_all P key n es x h.1)
   where

@@ -1,6 +1,6 @@
 -- Every script that passes checking is resolved to what is safe.
 use Rattle.std.proofs.Common.{◌≡◌, ℕ, ◌+◌, ◌<◌, ◌≤◌, true, false, ltb, List, [], ◌∷◌, ◌++◌, length, codes, sym, refl, ap, ◌∙◌, subst, add-zero, arith, length-append, lt-ltb, eq-eqb, le-leb}
-use Rattle.std.specs.List.{ContainsAt as Has, AllByRecursion as All}
+use Rattle.std.specs.List.{ContainsAt as Has, AllByRecursion}
 use Rattle.std.proofs.lemmas.List.{length-map}
 use Rattle.std.proofs.ByRecursion.{all-has, all_has_itself}
 use Rattle.language.specs.Syntax.{Ident, Atom, Right, atom, oper, nil, cons, call, test, region, split, Block, last, bind, print, Fun, Script}
@@ -49,7 +49,7 @@ way_safe total at end (Leave next slot closes) h k = and_says (is-ahead total at
 record Narrow (Γ : Scope) : Type 0 where
   regions : length Γ.regions ≤ 8
   variables : length Γ.variables ≤ 32
-  within : All (λ v. Within Γ v.type) Γ.variables
+  within : AllByRecursion (λ v. Within Γ v.type) Γ.variables
 
 narrow : {F : Script} {Γ : Scope} {b : Block} → TypedScript F → Reached F Γ b → Narrow Γ
 narrow {F} {Γ} {b} t h =
@@ -76,7 +76,7 @@ list-region {Γ} r S n (variable_has {x = x} {v = v} f s) e =
 list-region r S n numeral_has e = absurd (let z : ◌≡◌ {A = ℕ} 0 1 = cc in omega arith)
 
 -- what a call hands over
-handed-safe : {Γ : Scope} (G : List Function) (total at : ℕ) (rs : List Ident) → Narrow Γ → All (λ r. KnownRegion Γ r.name) rs → safe_from G total at (handed Γ rs) ≡ true
+handed-safe : {Γ : Scope} (G : List Function) (total at : ℕ) (rs : List Ident) → Narrow Γ → AllByRecursion (λ r. KnownRegion Γ r.name) rs → safe_from G total at (handed Γ rs) ≡ true
 handed-safe G total at [] n h = refl
 handed-safe G total at (r ∷ rs) n h = and_says (region-safe r.name n h.0) (handed-safe G total (at + 1) rs n h.1)
 
@@ -164,7 +164,7 @@ mutual
       and_says (and_says (operand-safe (narrow t h) (print-typed k)) (is-ahead total at (at + 1) (omega arith) (omega (arith, block-some b))))
       (safe_block t total (at + 1) w b (behind_print h) (omega arith) (subst (λ m. WayHolds total m w) (omega arith) way))
 
-from_safe : {F : Script} (t : TypedScript F) (total at : ℕ) (fs : List Fun) → All (Has F) fs → at + bodies-size fs ≤ total → safe_from (listed F) total at (compiled_from F at fs) ≡ true
+from_safe : {F : Script} (t : TypedScript F) (total at : ℕ) (fs : List Fun) → AllByRecursion (Has F) fs → at + bodies-size fs ≤ total → safe_from (listed F) total at (compiled_from F at fs) ≡ true
 from_safe t total at [] h end = refl
 from_safe {F} t total at (f ∷ fs) h end =
     let n = block_size f.body in
@@ -178,7 +178,7 @@ few-regions t f h = omega (arith, (narrow t (whole_body h)).regions, length-map 
 few-params : {F : Script} (t : TypedScript F) (f : Fun) → Has F f → length f.params ≤ 8
 few-params {F} t f h = all-has (λ g. length g.params ≤ 8) F f (scopes_keep_limits F t).0.2 h
 
-functions-safe : {F : Script} (t : TypedScript F) (total at : ℕ) (fs : List Fun) → All (Has F) fs → at + bodies-size fs ≤ total → safe_functions total (listed_from at fs) ≡ true
+functions-safe : {F : Script} (t : TypedScript F) (total at : ℕ) (fs : List Fun) → AllByRecursion (Has F) fs → at + bodies-size fs ≤ total → safe_functions total (listed_from at fs) ≡ true
 functions-safe t total at [] h end = refl
 functions-safe t total at (f ∷ fs) h end =
     and_says

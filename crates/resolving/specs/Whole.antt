@@ -1,6 +1,6 @@
 -- What the walk over all functions of a table lays down and lists.
 use Rattle.std.specs.Prelude.{◌≡◌, ℕ, ◌+◌, ◌≤◌, List, [], ◌++◌, length, take, drop, Ok}
-use Rattle.std.specs.List.{ContainsAt as Has, AllByRecursion as All}
+use Rattle.std.specs.List.{ContainsAt as Has, AllByRecursion}
 use Rattle.language.specs.Syntax.{Fun, Script}
 use Rattle.language.specs.Typing.{TypedScript}
 use Rattle.language.specs.Checking.{checking}
@@ -23,7 +23,7 @@ pub record Lists (before after : Entries) (gs : List Function) : Type 0 where
 
 -- whatever functions of a well-typed script stand at the position, they are laid down and listed
 abbrev pub FunctionsWalk : Table → Tape → Tape → Entries → Entries → ℕ → Type 0
-FunctionsWalk t before after old new position = (F : Script) (fs : List Fun) → items t ≡ items_of F → TypedScript F → All (Has F) fs →
+FunctionsWalk t before after old new position = (F : Script) (fs : List Fun) → items t ≡ items_of F → TypedScript F → AllByRecursion (Has F) fs →
     drop position (items t) ≡ items_each items_fun fs [] → length (laid before) ≡ before.count → before.count + length (compiled_from F before.count fs) ≤ 4096 → old.count + length fs ≤ 64 →
     Grows before after (compiled_from F before.count fs) × Lists old new (listed_from before.count fs)
 
