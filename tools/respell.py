@@ -13,8 +13,8 @@ import sys
 
 TOKEN = re.compile(r"[^\s(){}.,;:\"|\[\]«»]+")
 HEAD = re.compile(r"^(?:(?:abbrev|unfoldable|pub|infix\w* \d+) )*([^\s:(){}|]+) ?(?=[:({])")
-TYPE = re.compile(r"^(?:abbrev |unfoldable |pub )*(?:data|record) (\S+)")
-FIELD = re.compile(r"^\s+(?:pub )?([^\s:(){}|]+) :")
+TYPE = re.compile(r"^\s*(?:abbrev |unfoldable |pub )*(?:data|record) (\S+)")
+FIELD = re.compile(r"^\s+(?:(?:abbrev|pub|unfoldable) )*([^\s:(){}|]+) :")
 MADE = re.compile(r": *(?:goal|need)\.")
 # what std calls a word, behind which a lemma's name keeps its dash
 WORDS = {"length", "take", "drop", "map", "sum", "get_or", "slice_set", "all", "any", "filter", "reverse", "append", "max", "min"}

@@ -1,7 +1,7 @@
 -- What a resume counts: units and entries are neither lost nor invented.
 use Rattle.std.proofs.Common.{◌≡◌, ℕ, ◌+◌, length, sym, refl, ◌∙◌, subst, arith, length-append}
 use Rattle.regions.specs.Model.{Rule}
-use Rattle.language.specs.Questions.{Ending, spent, full, Next, Stint, Stop, Turn, on, stop, Reaches, already, onward, Comes-to, here, later}
+use Rattle.language.specs.Questions.{Ending, spent, full, Next, Stint, Stop, Turn, on, stop, Reaches, already, onward, ComesTo, here, later}
 use Rattle.language.specs.RunLaws.{ResumeCounts}
 use Rattle.language.proofs.Turns.{on_is, stop_is, not_both, reached, Halts, deep, no_unit, no_entry, denied, by_zero, Outcome, free, paid, put, granted, divided, halts, finishes, outcome}
 
@@ -49,7 +49,7 @@ module _ {S : Type 0} {grants : Rule} where
       let b = reaches_kept r in
       record { units = b.units ∙ a.units; entries = b.entries ∙ a.entries }
 
-  comes_lacks : {next_of : S → Next S} {t : Stint S} {d : Stop S} → Comes-to next_of grants t d → Lacks d.stint d.ending
+  comes_lacks : {next_of : S → Next S} {t : Stint S} {d : Stop S} → ComesTo next_of grants t d → Lacks d.stint d.ending
   comes_lacks {next_of = next_of} (here {t = t} {e = d} e) = lacks t d (outcome grants t (next_of t.run)) e
   comes_lacks (later e c) = comes_lacks c
 

@@ -1,7 +1,7 @@
 -- Every stint comes to exactly one stop, and `carried` computes it: the words that it can take never run out.
 use Rattle.std.proofs.Common.{◌≡◌, ℕ, zero, suc, ◌+◌, ◌*◌, ◌<◌, Some, sym, refl, subst, suc-mul, arith}
 use Rattle.regions.specs.Model.{Rule}
-use Rattle.language.specs.Questions.{Next, Stint, Stop, Turn, on, stop, turn, Comes-to, here, later, within}
+use Rattle.language.specs.Questions.{Next, Stint, Stop, Turn, on, stop, turn, ComesTo, here, later, within}
 use Rattle.language.specs.Plain.{State, next}
 use Rattle.language.specs.Carried.{script_size, enough, carried}
 use Rattle.language.specs.RunLaws.{OneStop}
@@ -30,7 +30,7 @@ module _ (t u : Stint State) where
 record Within (grants : Rule) (k : ℕ) (t : Stint State) : Type 0 where
   pub end : Stop State
   pub computed : within next grants k t ≡ Some end
-  pub reached : Comes-to next grants t end
+  pub reached : ComesTo next grants t end
 
 one_more : {grants : Rule} {k : ℕ} (t u : Stint State) → turn next grants t ≡ on u → Within grants k u → Within grants (suc k) t
 one_more t u e r = record { end = r.end; computed = rw (e, within) r.computed; reached = later e r.reached }
@@ -46,7 +46,7 @@ suffices grants (suc k) t h = by (λ u l. suffices grants k u l) (turn next gran
         one_more t u e (again u (omega arith))
 
 -- a stint comes to what is computed
-pub comes : (grants : Rule) (t : Stint State) → Comes-to next grants t (carried grants t)
+pub comes : (grants : Rule) (t : Stint State) → ComesTo next grants t (carried grants t)
 comes grants t =
     let r = suffices grants (enough t) t (omega arith) in
     rw (r.computed, carried) r.reached

@@ -5,7 +5,7 @@ use Rattle.regions.specs.Model.{Rule}
 use Rattle.language.specs.Syntax.{Ident, add, sub, mul, div, rem, eq, lt, Right, Block, atom, oper, nil, cons, call, test, region, split, last, bind, print, Param, Script}
 use Rattle.language.specs.Arithmetic.{same_number}
 use Rattle.language.specs.Values.{Value, number, empty, link, Held, value_of, number_of}
-use Rattle.language.specs.Questions.{exhausted, too_deep, zero_divisor, Next, moves, calls, prints, grows, divides, ends, Stint, Stop, Turn, on, stop, halt, asked, charged, filled, moved, turn, Reaches, already, onward, Comes-to, here, later}
+use Rattle.language.specs.Questions.{exhausted, too_deep, zero_divisor, Next, moves, calls, prints, grows, divides, ends, Stint, Stop, Turn, on, stop, halt, asked, charged, filled, moved, turn, Reaches, already, onward, ComesTo, here, later}
 use Rattle.language.specs.Plain.{Placed, Frame, inner, closing, returning, State, state, chosen, function_of, param_names, unfinished, split_value, after_block, at_right, at_block, next, main, started}
 use Rattle.language.specs.Struck.{struck_block, struck_param, struck_fun, struck_script}
 use Rattle.language.specs.StruckRun.{BareState, bare_function_of, bare_param_names, bare_unfinished, bare_after, bare_split, bare_next, bare_started, struck_frame, struck_state, struck_stint, struck_stop}
@@ -145,7 +145,7 @@ module _ (grants any : Rule) where
   reaches_alike already = already
   reaches_alike (onward {t = t} {u = u} e r) = onward (goes_on_alike t u e) (reaches_alike r)
 
-  comes_alike : {t : Stint State} {d : Stop State} → Comes-to next grants t d → (d.ending ≡ exhausted → ⊥) → Comes-to bare_next any (struck_stint t) (struck_stop d)
+  comes_alike : {t : Stint State} {d : Stop State} → ComesTo next grants t d → (d.ending ≡ exhausted → ⊥) → ComesTo bare_next any (struck_stint t) (struck_stop d)
   comes_alike (here {t = t} {e = d} e) h = here (stops_alike t d e h)
   comes_alike (later {t = t} {u = u} e c) h = later (goes_on_alike t u e) (comes_alike c h)
 

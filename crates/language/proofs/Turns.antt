@@ -2,7 +2,7 @@
 use Rattle.std.proofs.Common.{◌≡◌, ℕ, zero, suc, Bool, true, false, ltb, List, ℤ, pos, sym, refl, ◌∙◌, subst, arith}
 use Rattle.regions.specs.Model.{Rule}
 use Rattle.language.specs.Arithmetic.{same_number}
-use Rattle.language.specs.Questions.{Ending, finished, spent, full, exhausted, too_deep, zero_divisor, Next, moves, calls, prints, grows, divides, ends, Stint, Stop, Turn, on, stop, halt, asked, charged, filled, moved, turn, Reaches, already, onward, Comes-to, here, later}
+use Rattle.language.specs.Questions.{Ending, finished, spent, full, exhausted, too_deep, zero_divisor, Next, moves, calls, prints, grows, divides, ends, Stint, Stop, Turn, on, stop, halt, asked, charged, filled, moved, turn, Reaches, already, onward, ComesTo, here, later}
 
 module _ {S : Type 0} where
   pub on_is : {t u : Stint S} → on t ≡ on u → t ≡ u
@@ -73,23 +73,23 @@ module _ {S : Type 0} where
 
 module _ {S : Type 0} {next_of : S → Next S} {grants : Rule} where
   -- two stops of one stint are one
-  pub one_stop : {t : Stint S} {d e : Stop S} → Comes-to next_of grants t d → Comes-to next_of grants t e → d ≡ e
+  pub one_stop : {t : Stint S} {d e : Stop S} → ComesTo next_of grants t d → ComesTo next_of grants t e → d ≡ e
   one_stop (here p) (here q) = stop_is (sym p ∙ q)
   one_stop (here p) (later q c) = not_both (sym q ∙ p)
   one_stop (later p b) (here q) = not_both (sym p ∙ q)
-  one_stop {e = e} (later p b) (later q c) = one_stop b (subst (λ u. Comes-to next_of grants u e) (on_is (sym q ∙ p)) c)
+  one_stop {e = e} (later p b) (later q c) = one_stop b (subst (λ u. ComesTo next_of grants u e) (on_is (sym q ∙ p)) c)
 
   -- the stint of a stop is reached
-  pub reached : {t : Stint S} {d : Stop S} → Comes-to next_of grants t d → Reaches next_of grants t d.stint
+  pub reached : {t : Stint S} {d : Stop S} → ComesTo next_of grants t d → Reaches next_of grants t d.stint
   reached (here {t = t} {e = d} e) = subst (λ u. Reaches next_of grants t u) (sym (stays d (outcome grants t (next_of t.run)) e)) already
   reached (later e c) = onward e (reached c)
 
   -- and stops there
-  pub last_turn : {t : Stint S} {d : Stop S} → Comes-to next_of grants t d → turn next_of grants d.stint ≡ stop d
+  pub last_turn : {t : Stint S} {d : Stop S} → ComesTo next_of grants t d → turn next_of grants d.stint ≡ stop d
   last_turn (here {t = t} {e = d} e) = subst (λ u. turn next_of grants u ≡ stop d) (sym (stays d (outcome grants t (next_of t.run)) e)) e
   last_turn (later e c) = last_turn c
 
   -- what is reached comes to what comes after
-  pub reaches_comes : {t u : Stint S} {d : Stop S} → Reaches next_of grants t u → Comes-to next_of grants u d → Comes-to next_of grants t d
+  pub reaches_comes : {t u : Stint S} {d : Stop S} → Reaches next_of grants t u → ComesTo next_of grants u d → ComesTo next_of grants t d
   reaches_comes already c = c
   reaches_comes (onward e r) c = later e (reaches_comes r c)

@@ -103,9 +103,9 @@ module _ {S : Type 0} (next : S → Next S) (grants : Rule) where
     onward : {t u v : Stint S} → turn t ≡ on u → Reaches u v → Reaches t v
 
   -- word by word a stint comes to a stop
-  pub data Comes-to : Stint S → Stop S → Type 0 where
-    here : {t : Stint S} {e : Stop S} → turn t ≡ stop e → Comes-to t e
-    later : {t u : Stint S} {e : Stop S} → turn t ≡ on u → Comes-to u e → Comes-to t e
+  pub data ComesTo : Stint S → Stop S → Type 0 where
+    here : {t : Stint S} {e : Stop S} → turn t ≡ stop e → ComesTo t e
+    later : {t u : Stint S} {e : Stop S} → turn t ≡ on u → ComesTo u e → ComesTo t e
 
   -- the same by computing: none where it takes more than so many words
   abbrev pub within : ℕ → Stint S → Option (Stop S)

@@ -4,7 +4,7 @@ use Rattle.regions.specs.Model.{Rule, Regions}
 use Rattle.language.specs.Syntax.{Script}
 use Rattle.language.specs.Types.{RegionType}
 use Rattle.language.specs.Values.{Value}
-use Rattle.language.specs.Questions.{Ending, spent, full, exhausted, grows, Stint, Stop, Reaches, Comes-to, begun}
+use Rattle.language.specs.Questions.{Ending, spent, full, exhausted, grows, Stint, Stop, Reaches, ComesTo, begun}
 use Rattle.language.specs.Plain.{State, Placed, next, started}
 use Rattle.language.specs.Carried.{carried}
 use Rattle.language.specs.PlainSession.{Session, Run, Refusal, Call, resume, Told, told, refused, answered, stopped, resumed}
@@ -16,12 +16,12 @@ use Rattle.language.specs.Reads.{Reads, reference, region_of, place_of}
 
 -- Every stint comes to a stop, the one that `carried` computes, and to no other.
 abbrev pub OneStop : Type 0
-OneStop = (grants : Rule) (t : Stint State) → Comes-to next grants t (carried grants t) × ((e : Stop State) → Comes-to next grants t e → e ≡ carried grants t)
+OneStop = (grants : Rule) (t : Stint State) → ComesTo next grants t (carried grants t) × ((e : Stop State) → ComesTo next grants t e → e ≡ carried grants t)
 
 -- So every call has one answer: a resume that is not refused answers by the one stop that its run comes to.
 abbrev pub OneAnswer : Type 0
 OneAnswer = (grants : Rule) (units : ℕ) (entries : List ℤ) (s : Session) (c : Run) (e : Stop State) → s.run ≡ Some c → c.used + units ≤ 4294967295 →
-    Comes-to next grants (resumed c units entries) e → answered grants (resume units entries) s ≡ stopped e c entries s
+    ComesTo next grants (resumed c units entries) e → answered grants (resume units entries) s ≡ stopped e c entries s
 
 -- A refusal changes no session, and a resume fills its list without lengthening or shortening it.
 pub record CallsKeep : Type 0 where
@@ -47,17 +47,17 @@ StruckSpelling = (F : Script) → struck_tokens (spell F) ≡ bare_spell (struck
 pub record StruckAlike : Type 0 where
   pub starts : (F : Script) (n : ℤ) → struck_state (started F n) ≡ bare_started (struck_script F) n
   pub reaches : (grants any : Rule) (t u : Stint State) → Reaches next grants t u → Reaches bare_next any (struck_stint t) (struck_stint u)
-  pub stops : (grants any : Rule) (t : Stint State) (e : Stop State) → Comes-to next grants t e → (e.ending ≢ exhausted) →
-      Comes-to bare_next any (struck_stint t) (struck_stop e)
-  pub denied : (grants any : Rule) (t : Stint State) (e : Stop State) → Comes-to next grants t e → e.ending ≡ exhausted →
+  pub stops : (grants any : Rule) (t : Stint State) (e : Stop State) → ComesTo next grants t e → (e.ending ≢ exhausted) →
+      ComesTo bare_next any (struck_stint t) (struck_stop e)
+  pub denied : (grants any : Rule) (t : Stint State) (e : Stop State) → ComesTo next grants t e → e.ending ≡ exhausted →
       Reaches bare_next any (struck_stint t) (struck_stint e.stint)
 
 -- What a resume counts: units used and units left are those given, and so for prints and entries; spent has no unit left, and list full no entry.
 pub record ResumeCounts : Type 0 where
-  pub units : (grants : Rule) (s : State) (n l : ℕ) (e : Stop State) → Comes-to next grants (begun s n l) e → e.stint.used + e.stint.units ≡ n
-  pub prints : (grants : Rule) (s : State) (n l : ℕ) (e : Stop State) → Comes-to next grants (begun s n l) e → length e.stint.printed + e.stint.entries ≡ l
-  pub at_spent : (grants : Rule) (s : State) (n l : ℕ) (e : Stop State) → Comes-to next grants (begun s n l) e → e.ending ≡ spent → e.stint.units ≡ 0
-  pub at_full : (grants : Rule) (s : State) (n l : ℕ) (e : Stop State) → Comes-to next grants (begun s n l) e → e.ending ≡ full → e.stint.entries ≡ 0
+  pub units : (grants : Rule) (s : State) (n l : ℕ) (e : Stop State) → ComesTo next grants (begun s n l) e → e.stint.used + e.stint.units ≡ n
+  pub prints : (grants : Rule) (s : State) (n l : ℕ) (e : Stop State) → ComesTo next grants (begun s n l) e → length e.stint.printed + e.stint.entries ≡ l
+  pub at_spent : (grants : Rule) (s : State) (n l : ℕ) (e : Stop State) → ComesTo next grants (begun s n l) e → e.ending ≡ spent → e.stint.units ≡ 0
+  pub at_full : (grants : Rule) (s : State) (n l : ℕ) (e : Stop State) → ComesTo next grants (begun s n l) e → e.ending ≡ full → e.stint.entries ≡ 0
 
 -- two resumes as one: the second's ending, with the counts and the numbers printed added up
 abbrev pub joined : Stop State → Stop State → Stop State
@@ -76,9 +76,9 @@ joined d e = record {
 
 -- A run that stopped goes on at the same word: resumed with what was left and some more, it does what it would have done with that from the first.
 abbrev pub GoesOn : Type 0
-GoesOn = (grants : Rule) (s : State) (n l more-units more-entries : ℕ) (d e : Stop State) → Comes-to next grants (begun s n l) d →
-    Comes-to next grants (begun d.stint.run (d.stint.units + more-units) (d.stint.entries + more-entries)) e →
-    Comes-to next grants (begun s (n + more-units) (l + more-entries)) (joined d e)
+GoesOn = (grants : Rule) (s : State) (n l more-units more-entries : ℕ) (d e : Stop State) → ComesTo next grants (begun s n l) d →
+    ComesTo next grants (begun d.stint.run (d.stint.units + more-units) (d.stint.entries + more-entries)) e →
+    ComesTo next grants (begun s (n + more-units) (l + more-entries)) (joined d e)
 
 -- the stint comes to a word that would open a region or add words, and the rule denies the account after it
 pub record Denial (grants : Rule) (t : Stint State) : Type 0 where

@@ -2,7 +2,7 @@
 use Rattle.std.specs.Prelude.{ℕ, suc, Bool, true, false, List, [], ◌∷◌, codes}
 use Rattle.lexing.specs.Tokens.{same_bytes}
 use Rattle.language.specs.Spelling.{Spelled, word, word_at, block_at, list_at, name, number, key, mark, spell_list, spell_atom, op_word}
-use Rattle.language.specs.Struck.{BareType, Bare-right, Bare-block, BareParam, BareFun, BareScript, int, list, atom, oper, nil, cons, call, test, block, split, last, bind, print}
+use Rattle.language.specs.Struck.{BareType, BareRight, BareBlock, BareParam, BareFun, BareScript, int, list, atom, oper, nil, cons, call, test, block, split, last, bind, print}
 
 -- where the striking stands: it keeps what comes, strikes one name, or strikes up to the closing bracket
 pub data Striking : Type 0 where
@@ -49,7 +49,7 @@ bare_spell_type depth int after = key (codes "int") ∷ after
 bare_spell_type depth (list T) after = list_at depth ∷ mark (codes "(") ∷ bare_spell_type (suc depth) T (mark (codes ")") ∷ after)
 
 abbrev mutual
-  pub bare_spell_right : ℕ → Bare-right → List Spelled → List Spelled
+  pub bare_spell_right : ℕ → BareRight → List Spelled → List Spelled
   bare_spell_right depth (atom a) after = spell_atom a after
   bare_spell_right depth (oper p o a b) after = word_at p (op_word o) ∷ spell_atom a (spell_atom b after)
   bare_spell_right depth (nil p T) after = word_at p (codes "nil") ∷ mark (codes "(") ∷ bare_spell_type 1 T (mark (codes ")") ∷ after)
@@ -59,7 +59,7 @@ abbrev mutual
   bare_spell_right depth (block b) after = block_at (suc depth) ∷ bare_spell_inside (suc depth) b after
   bare_spell_right depth (split p a b h t c) after = word_at p (codes "case") ∷ spell_atom a (block_at (suc depth) ∷ bare_spell_inside (suc depth) b (key (codes "else") ∷ name h ∷ name t ∷ block_at (suc depth) ∷ bare_spell_inside (suc depth) c after))
 
-  pub bare_spell_inside : ℕ → Bare-block → List Spelled → List Spelled
+  pub bare_spell_inside : ℕ → BareBlock → List Spelled → List Spelled
   bare_spell_inside depth (last a) after = spell_atom a (mark (codes "}") ∷ after)
   bare_spell_inside depth (bind x r b) after = key (codes "let") ∷ name x ∷ mark (codes "=") ∷ bare_spell_right depth r (mark (codes ";") ∷ bare_spell_inside depth b after)
   bare_spell_inside depth (print p a b) after = word_at p (codes "print") ∷ spell_atom a (mark (codes ";") ∷ bare_spell_inside depth b after)

@@ -9,20 +9,20 @@ pub data BareType : Type 0 where
 
 -- right sides and blocks without region words; a block can stand as a right side
 mutual
-  pub data Bare-right : Type 0 where
-    atom : Atom → Bare-right
-    oper : ℕ → Op → Atom → Atom → Bare-right
-    nil : ℕ → BareType → Bare-right
-    cons : ℕ → Atom → Atom → Bare-right
-    call : ℕ → Ident → List Atom → Bare-right
-    test : ℕ → Atom → Bare-block → Bare-block → Bare-right
-    block : Bare-block → Bare-right
-    split : ℕ → Atom → Bare-block → Ident → Ident → Bare-block → Bare-right
+  pub data BareRight : Type 0 where
+    atom : Atom → BareRight
+    oper : ℕ → Op → Atom → Atom → BareRight
+    nil : ℕ → BareType → BareRight
+    cons : ℕ → Atom → Atom → BareRight
+    call : ℕ → Ident → List Atom → BareRight
+    test : ℕ → Atom → BareBlock → BareBlock → BareRight
+    block : BareBlock → BareRight
+    split : ℕ → Atom → BareBlock → Ident → Ident → BareBlock → BareRight
 
-  pub data Bare-block : Type 0 where
-    last : Atom → Bare-block
-    bind : Ident → Bare-right → Bare-block → Bare-block
-    print : ℕ → Atom → Bare-block → Bare-block
+  pub data BareBlock : Type 0 where
+    last : Atom → BareBlock
+    bind : Ident → BareRight → BareBlock → BareBlock
+    print : ℕ → Atom → BareBlock → BareBlock
 
 pub record BareParam : Type 0 where
   pub name : Ident
@@ -32,7 +32,7 @@ pub record BareFun : Type 0 where
   pub name : Ident
   pub params : List BareParam
   pub result : BareType
-  pub body : Bare-block
+  pub body : BareBlock
 
 abbrev pub BareScript : Type 0
 BareScript = List BareFun
@@ -42,12 +42,12 @@ struck_type Ty.int = int
 struck_type (Ty.list r T) = list (struck_type T)
 
 abbrev mutual
-  pub struck_block : Block → Bare-block
+  pub struck_block : Block → BareBlock
   struck_block (Block.last a) = last a
   struck_block (Block.bind x r b) = bind x (struck_right r) (struck_block b)
   struck_block (Block.print p a b) = print p a (struck_block b)
 
-  pub struck_right : Right → Bare-right
+  pub struck_right : Right → BareRight
   struck_right (Right.atom a) = atom a
   struck_right (Right.oper p o a b) = oper p o a b
   struck_right (Right.nil p r T) = nil p (struck_type T)

@@ -6,21 +6,21 @@ use Rattle.language.specs.Arithmetic.{calculated, has_divisor}
 use Rattle.language.specs.Values.{Value, number, empty, link, Held, holding, number_of, value_of, values_of, handed}
 use Rattle.language.specs.Questions.{Next, moves, calls, prints, divides, ends, Stint, Stop}
 use Rattle.language.specs.Plain.{Frame, inner, closing, returning, State, chosen, main}
-use Rattle.language.specs.Struck.{Bare-right, Bare-block, BareParam, BareFun, BareScript, int, atom, oper, nil, cons, call, test, block, split, last, bind, print, struck_block, struck_script}
+use Rattle.language.specs.Struck.{BareRight, BareBlock, BareParam, BareFun, BareScript, int, atom, oper, nil, cons, call, test, block, split, last, bind, print, struck_block, struck_script}
 
 -- what waits for a block's value
 pub data BareFrame : Type 0 where
-  inside : Ident → Bare-block → List Held → BareFrame
-  caller : Ident → Bare-block → List Held → BareFrame
+  inside : Ident → BareBlock → List Held → BareFrame
+  caller : Ident → BareBlock → List Held → BareFrame
 
 -- a run: its script, the block that is left of the newest, the variables in scope, and what waits behind
 pub record BareState : Type 0 where
   pub script : BareScript
-  pub left : Bare-block
+  pub left : BareBlock
   pub variables : List Held
   pub frames : List BareFrame
 
-abbrev pub bare : BareScript → Bare-block → List Held → List BareFrame → BareState
+abbrev pub bare : BareScript → BareBlock → List Held → List BareFrame → BareState
 bare F b E K = record { script = F; left = b; variables = E; frames = K }
 
 abbrev pub no_bare_function : BareFun
@@ -47,7 +47,7 @@ bare_after F v [] = ends (number_of v)
 bare_after F v (inside x b E ∷ K) = moves (bare F b (holding E x v) K)
 bare_after F v (caller x b E ∷ K) = moves (bare F b (holding E x v) K)
 
-abbrev pub bare_split : BareScript → Value → Bare-block → Ident → Ident → Bare-block → List Held → List BareFrame → BareState
+abbrev pub bare_split : BareScript → Value → BareBlock → Ident → Ident → BareBlock → List Held → List BareFrame → BareState
 bare_split F (number z) b h t c E K = bare F b E K
 bare_split F empty b h t c E K = bare F b E K
 bare_split F (link v w) b h t c E K = bare F c (holding (holding E h v) t w) K
@@ -56,7 +56,7 @@ abbrev pub bare_operated : Op → ℕ → ℤ → BareState → Next BareState
 bare_operated o p z s = elim (has_divisor o) [ true ↦ divides p z s | false ↦ moves s ]
 
 -- a right side, whose value is for the variable x of the block b
-abbrev pub bare_right : BareScript → Ident → Bare-right → Bare-block → List Held → List BareFrame → Next BareState
+abbrev pub bare_right : BareScript → Ident → BareRight → BareBlock → List Held → List BareFrame → Next BareState
 bare_right F x (atom a) b E K = moves (bare F b (holding E x (value_of E a)) K)
 bare_right F x (oper p o a c) b E K =
     bare_operated o p (number_of (value_of E c)) (bare F b (holding E x (number (calculated o (number_of (value_of E a)) (number_of (value_of E c))))) K)
@@ -68,7 +68,7 @@ bare_right F x (test p a c d) b E K = moves (bare F (chosen (number_of (value_of
 bare_right F x (block c) b E K = moves (bare F c E (inside x b E ∷ K))
 bare_right F x (split p a c h t d) b E K = moves (bare_split F (value_of E a) c h t d E (inside x b E ∷ K))
 
-abbrev pub bare_block : BareScript → Bare-block → List Held → List BareFrame → Next BareState
+abbrev pub bare_block : BareScript → BareBlock → List Held → List BareFrame → Next BareState
 bare_block F (last a) E K = bare_after F (value_of E a) K
 bare_block F (bind x r b) E K = bare_right F x r b E K
 bare_block F (print p a b) E K = prints p (number_of (value_of E a)) (bare F b E K)
