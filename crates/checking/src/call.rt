@@ -4,7 +4,7 @@ ghost use Rattle.draft.specs.Items.{text_of, items, ident};
 ghost use Rattle.scope.specs.Words.{row, declared, handed};
 ghost use Rattle.scope.specs.Entries.{scope_of};
 ghost use Rattle.scope.specs.Verdicts.{told};
-ghost use Rattle.checking.specs.Walk.{parameters, walk_handed, walk_arguments, called as walk-called, walk_call};
+ghost use Rattle.checking.specs.Walk.{parameters, walk_handed, walk_arguments, called as walk_called, walk_call};
 ghost use Rattle.checking.specs.Reads.{rest_of, pair_of, functions_of};
 
 use crate::atom::need;
@@ -65,7 +65,7 @@ fn called(
     header: usize,
     position: usize,
 ) -> Result<(Sort, usize), Fault>
-    ensures { told (pair_of (items table.now)) result ≡ walk-called (scope_of table.now state.now) (ident (text_of table.now) name) (drop position (items table.now)) (drop header (items table.now)) }
+    ensures { told (pair_of (items table.now)) result ≡ walk_called (scope_of table.now state.now) (ident (text_of table.now) name) (drop position (items table.now)) (drop header (items table.now)) }
 {
     if !fits(table, header, position) {
         return Err(Fault {

@@ -4,7 +4,7 @@ ghost use Rattle.language.specs.Scope.{find, empty_scope};
 ghost use Rattle.draft.specs.Items.{text_of, items, ident};
 ghost use Rattle.scope.specs.Words.{type_of};
 ghost use Rattle.scope.specs.Verdicts.{told, passed};
-ghost use Rattle.checking.specs.Walk.{walk_header, behind_header, next_function as next_of, new_function as new-of, walk_headers, result_type, main_items, walk_main, walk_body, walk_bodies};
+ghost use Rattle.checking.specs.Walk.{walk_header, behind_header, next_function as next_of, new_function as new_of, walk_headers, result_type, main_items, walk_main, walk_body, walk_bodies};
 ghost use Rattle.checking.specs.Reads.{rest_of, functions_of, functions_in, AddsFunction};
 
 use crate::block::block;
@@ -52,7 +52,7 @@ impl Functions {
 
     // A function may take that name.
     fn new_function(&self, table: &Table, name: Name) -> Result<(), Fault>
-        ensures asked { passed result ≡ new-of (functions_of table.now self.now) (ident (text_of table.now) name) }
+        ensures asked { passed result ≡ new_of (functions_of table.now self.now) (ident (text_of table.now) name) }
         ensures room { OnOk result (self.now.count < 64) }
     {
         match first(table, functions_in(self), bytes_of(table, name)) {

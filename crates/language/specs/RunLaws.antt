@@ -76,9 +76,9 @@ joined d e = record {
 
 -- A run that stopped goes on at the same word: resumed with what was left and some more, it does what it would have done with that from the first.
 abbrev pub GoesOn : Type 0
-GoesOn = (grants : Rule) (s : State) (n l more-units more-entries : ℕ) (d e : Stop State) → ComesTo next grants (begun s n l) d →
-    ComesTo next grants (begun d.stint.run (d.stint.units + more-units) (d.stint.entries + more-entries)) e →
-    ComesTo next grants (begun s (n + more-units) (l + more-entries)) (joined d e)
+GoesOn = (grants : Rule) (s : State) (n l more_units more_entries : ℕ) (d e : Stop State) → ComesTo next grants (begun s n l) d →
+    ComesTo next grants (begun d.stint.run (d.stint.units + more_units) (d.stint.entries + more_entries)) e →
+    ComesTo next grants (begun s (n + more_units) (l + more_entries)) (joined d e)
 
 -- the stint comes to a word that would open a region or add words, and the rule denies the account after it
 pub record Denial (grants : Rule) (t : Stint State) : Type 0 where

@@ -1,6 +1,6 @@
 // Right sides without blocks.
 ghost use Rattle.std.specs.Prelude.{◌≡◌, ◌+◌, ◌<◌, ◌≤◌, ◌∷◌};
-ghost use Rattle.draft.specs.Items.{Item, an_operation, a_nil, a_cons, a_call, text_of, items, ident, operator as operator-said};
+ghost use Rattle.draft.specs.Items.{Item, an_operation, a_nil, a_cons, a_call, text_of, items, ident, operator as operator_said};
 ghost use Rattle.resolving.specs.Walks.{Stands, AtomWalk, RightWalk};
 
 use crate::atoms::atom;
@@ -48,7 +48,7 @@ pub fn operate(
 ) -> End
     requires { position < 4096 }
     ensures onward { position ≤ result.position }
-    ensures walks { Stands table.now position (an_operation place (operator-said operator)) → RightWalk table.now names.now tape.old tape.new position result }
+    ensures walks { Stands table.now position (an_operation place (operator_said operator)) → RightWalk table.now names.now tape.old tape.new position result }
 {
     let first = atom(table, names, position + 1);
     let second = atom(table, names, position + 2);

@@ -1,7 +1,7 @@
 // Types, as words in a row that stand in the table: equality, mentions, depth and replacement, each said once.
 ghost use Rattle.std.specs.Prelude.{◌≡◌, ◌<◌, ◌≤◌, drop, MatchOption};
 ghost use Rattle.draft.specs.Items.{text_of, items};
-ghost use Rattle.language.specs.Types.{int, list, same_type, mentions as mentions-region, depth as depth-of, renamed as Renamed-by};
+ghost use Rattle.language.specs.Types.{int, list, same_type, mentions as mentions_region, depth as depth_of, renamed as renamed_by};
 ghost use Rattle.scope.specs.Words.{bytes, row, declared, handed, type_of, left};
 
 use crate::command::{declared_at, handed_at, word_at};
@@ -20,7 +20,7 @@ pub enum Sort {
 
 // The name that stands for a region, where each declared region gives way to the one handed over at its place.
 pub fn renamed(table: &Table, old: usize, new: usize, name: Name) -> Name
-    ensures { bytes (text_of table.now) result ≡ Renamed-by (row declared (drop old (items table.now))) (row handed (drop new (items table.now))) (bytes (text_of table.now) name) }
+    ensures { bytes (text_of table.now) result ≡ renamed_by (row declared (drop old (items table.now))) (row handed (drop new (items table.now))) (bytes (text_of table.now) name) }
 {
     match declared_at(table, old) {
         None => name,
@@ -81,7 +81,7 @@ pub fn same_sort(table: &Table, left: Sort, right: Sort) -> bool
 
 // Whether a type mentions a region, in any of its words.
 pub fn mentions(table: &Table, region: Name, sort: Sort) -> bool
-    ensures { result ≡ mentions-region (bytes (text_of table.now) region) (type_of (items table.now) sort) }
+    ensures { result ≡ mentions_region (bytes (text_of table.now) region) (type_of (items table.now) sort) }
 {
     match head(table, sort) {
         None => false,
@@ -97,7 +97,7 @@ pub fn mentions(table: &Table, region: Name, sort: Sort) -> bool
 
 // How deep a type is nested: int is 0.
 pub fn depth(table: &Table, sort: Sort) -> usize
-    ensures is { result ≡ depth-of (type_of (items table.now) sort) }
+    ensures is { result ≡ depth_of (type_of (items table.now) sort) }
     ensures within { result ≤ left sort }
 {
     match head(table, sort) {
