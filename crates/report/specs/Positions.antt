@@ -1,5 +1,5 @@
 -- Lines and columns, as a cursor goes over the bytes of a text.
-use Rattle.std.specs.Prelude.{true, false, List, [], ◌∷◌, ℕ, ◌+◌, eqb}
+use Rattle.std.specs.Prelude.{true, false, List, [], ◌∷◌, ℕ, ◌+◌, ◌==◌}
 use Rattle.report.specs.declared.position.Position.{Position}
 
 abbrev pub at : ℕ → ℕ → Position
@@ -8,7 +8,7 @@ at line column = record { line = line; column = column }
 -- where a cursor goes over some bytes: behind a line feed a new line begins
 abbrev pub onward : ℕ → ℕ → List ℕ → Position
 onward line column [] = at line column
-onward line column (b ∷ bs) = elim (eqb b 10) [ true ↦ onward (line + 1) 1 bs | false ↦ onward line (column + 1) bs ]
+onward line column (b ∷ bs) = elim (b == 10) [ true ↦ onward (line + 1) 1 bs | false ↦ onward line (column + 1) bs ]
 
 -- the position behind some bytes at the start of a text
 abbrev pub position_of : List ℕ → Position
