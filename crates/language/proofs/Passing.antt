@@ -63,7 +63,9 @@ known-type_is {Γ} (Ty.list r t) e =
 
 atom_is : {Γ : Scope} {T : RegionType} (a : Atom) → type_atom Γ a ≡ Ok T → TypedAtom Γ a T
 atom_is {Γ} (var x) e = let (v, p, q) = bound _ _ e in variable_has (found-is (find_variable Γ x.name) x.place p) (cc)
-atom_is {Γ} (num p z) e = subst (TypedAtom Γ (num p z)) (cc) numeral_has
+atom_is {Γ} (num p z) e =
+    let has : TypedAtom Γ (num p z) int = numeral_has in
+    subst (TypedAtom Γ (num p z)) (cc) has
 
 need-is : {Γ : Scope} {T : RegionType} {u : Unit {0}} (a : Atom) → need Γ a T ≡ Ok u → TypedAtom Γ a T
 need-is {Γ} {T} a e =
