@@ -1,0 +1,13 @@
+-- What a contract sees of a row.
+use Rattle.std.specs.Prelude.{List, refl}
+use Rattle.std.specs.Coded.{Coded, code_by, coded×, coded_list}
+
+-- the items, and what stands in the room behind them, of which no clause says anything
+pub record Row (T : Type 0) : Type 0 where
+  pub items : List T
+  pub spare : List T
+
+-- a row is stored as the pair of its lists
+abbrev pub row_code : {T : Type 0} → Coded T → Coded (Row T)
+row_code {T} code =
+    code_by (List T × List T) (coded× (coded_list code) (coded_list code)) (λ r. (r.items, r.spare)) (λ p. record { items = p.0; spare = p.1 }) (λ _. refl)

@@ -1,0 +1,4 @@
+// Rows: lists of a fixed capacity, which lie in the value itself and never allocate.
+#![tactic(auto)]
+
+pub mod row;
