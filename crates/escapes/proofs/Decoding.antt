@@ -1,19 +1,10 @@
 -- How the bytes of a line come one by one.
-use Rattle.std.proofs.Common.{◌≡◌, ℕ, zero, suc, ◌+◌, ◌-◌, ◌*◌, ◌<◌, Bool, true, false, cond, eqb, List, [], ◌∷◌, ◌++◌, length, get_or, take, drop, Some, None, Option, sym, refl, ap, ◌∙◌, subst, append_assoc, append-nil, arith}
-use Rattle.std.proofs.lemmas.Slice.{between_to_end}
+use Rattle.std.proofs.Common.{◌≡◌, ℕ, zero, suc, ◌<◌, Bool, true, false, cond, eqb, List, [], ◌∷◌, ◌++◌, length, Some, None, Option, sym, refl, ap, ◌∙◌, subst, append_assoc, arith}
 use Rattle.escapes.specs.Escapes.{hex, pair, hexed, escaped, decoded, before, bytes_from, unescaped}
 
 abbrev some_in : {A : Type 0} → Option A → ℕ
 some_in (Some x) = 1
 some_in None = 0
-
--- two digits at the front
-pub two_digits : (s : List ℕ) (a b : ℕ) → hex (get_or s 0 0) ≡ Some a → hex (get_or s 1 0) ≡ Some b → Some (16 * a + b, take (length s - 2) (drop 2 s)) ≡ hexed s
-two_digits [] a b e f = let z : ◌≡◌ {A = ℕ} 0 1 = ap some_in e in absurd (omega arith)
-two_digits (h ∷ []) a b e f = let z : ◌≡◌ {A = ℕ} 0 1 = ap some_in f in absurd (omega arith)
-two_digits (h ∷ (l ∷ rest)) a b e f =
-    ap (λ t. Some (16 * a + b, t)) (between_to_end (h ∷ (l ∷ rest)) 2 (suc (suc (length rest))) (omega arith))
-    ∙ ap (λ v. pair (Some a) v rest) (sym f) ∙ ap (λ v. pair v (hex l) rest) (sym e)
 
 -- what an answer leaves is shorter than the text
 abbrev Shorter : ℕ → Option (ℕ × List ℕ) → Type 0
@@ -87,15 +78,6 @@ joined-more m done s c rest h e k =
     let l = decoded-shorter s c rest e in
     k ∙ ap (joined done) (from_decoded s (Some (c, rest)) h e ∙ ap (before c) (steps_enough (length s) (suc (length rest)) rest l (omega arith)))
     ∙ joined-before done c (unescaped rest)
-
--- a backslash that begins no escape
-pub joined-bad : (m : Option (List ℕ)) (done s : List ℕ) → 0 < length s → None ≡ decoded s → m ≡ joined done (unescaped s) → m ≡ None
-joined-bad m done s h e k = k ∙ ap (joined done) (from_decoded s None h e)
-
--- the end of the line
-pub joined_end : (m : Option (List ℕ)) (done s : List ℕ) → length s ≡ 0 → m ≡ joined done (unescaped s) → m ≡ Some done
-joined_end m done [] h k = k ∙ ap Some (append-nil done)
-joined_end m done (b ∷ bs) h k = absurd (omega arith)
 
 -- at the start nothing is there
 pub joined-none : (s : List ℕ) → unescaped s ≡ joined [] (unescaped s)

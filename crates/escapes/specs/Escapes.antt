@@ -1,5 +1,5 @@
 -- The bytes that a line of escapes stands for.
-use Rattle.std.specs.Prelude.{◌≡◌, ℕ, zero, suc, ◌+◌, ◌-◌, ◌*◌, cond, ◌&&◌, List, [], ◌∷◌, length, Some, None, Option, ◌==◌, nat_le}
+use Rattle.std.specs.Prelude.{◌≡◌, ℕ, zero, suc, ◌+◌, ◌-◌, ◌*◌, cond, ◌&&◌, List, [], ◌∷◌, length, codes, Some, None, Option, ◌==◌, nat_le}
 use Rattle.std.specs.Borrow.{Bor}
 use Rattle.escapes.specs.declared.Failure.{Failure}
 use Rattle.escapes.specs.declared.Failure.TheVariants.{BadEscape, Memory}
@@ -57,3 +57,8 @@ unescaped s = bytes_from (suc (length s)) s
 abbrev pub Why : List ℕ → Failure → Type 0
 Why s BadEscape = unescaped s ≡ None
 Why s Memory = Unit {0}
+
+-- why, in words
+abbrev pub said : Failure → List ℕ
+said BadEscape = codes "a backslash stands before n, t, x and two hexadecimal digits, or another backslash"
+said Memory = codes "there is no memory for this"

@@ -2,15 +2,42 @@
 #![tactic(auto)]
 
 ghost use Rattle.std.specs.Prelude.{◌≡◌, Some, MatchResult};
-ghost use Rattle.escapes.specs.Escapes.{hex, hexed, escaped, decoded, lent, unescaped, Why};
+ghost use Rattle.escapes.specs.Escapes.{hex, hexed, escaped, decoded, lent, unescaped, said, Why};
+ghost use Rattle.escapes.specs.declared.Failure.TheVariants.{Memory};
 
-use std::alloc::Global;
+use std::alloc::{AllocFailed, Global};
+use std::error::Error;
+use std::fmt;
 
-#[derive(Drop)]
+// Why a line gives no bytes.
+#[derive(Clone, Copy, PartialEq, Eq, Debug)]
 pub enum Failure {
     // A backslash that begins none of the four forms.
     BadEscape,
     Memory,
+}
+
+impl fmt::Display for Failure {
+    ghost output = { λ failure. Some (said failure) };
+
+    fn fmt<W: fmt::Write>(&self, f: &mut fmt::Formatter<W>) -> fmt::Result {
+        f.write_str(match self {
+            Failure::BadEscape => {
+                "a backslash stands before n, t, x and two hexadecimal digits, or another backslash"
+            }
+            Failure::Memory => "there is no memory for this",
+        })
+    }
+}
+
+impl Error for Failure {}
+
+impl<T: Drop> From<AllocFailed<T>> for Failure {
+    ghost from_gives = { λ _ failure. failure ≡ Memory };
+
+    fn from(_failed: AllocFailed<T>) -> Failure {
+        Failure::Memory
+    }
 }
 
 // The value of a hexadecimal digit.
@@ -32,10 +59,7 @@ fn hex_byte(text: &[u8]) -> Option<(u8, &[u8])>
     let [high, low, rest @ ..] = text else {
         return None;
     };
-    match (hex_value(*high), hex_value(*low)) {
-        (Some(a), Some(b)) => Some((16 * a + b, rest)),
-        _ => None,
-    }
+    Some((16 * hex_value(*high)? + hex_value(*low)?, rest))
 }
 
 // The byte that the text behind a backslash stands for, and the rest.
@@ -70,13 +94,10 @@ pub fn unescape(heap: Global, line: &[u8]) -> Result<Vec<u8>, Failure>
 {
     let mut bytes = Vec::new(heap);
     let mut rest = line;
+    // A turn takes from one to four bytes, so that no `for` goes over the line.
     while !rest.is_empty() {
-        let Some((byte, behind)) = next_byte(rest) else {
-            return Err(Failure::BadEscape);
-        };
-        let Ok(()) = bytes.push(byte) else {
-            return Err(Failure::Memory);
-        };
+        let (byte, behind) = next_byte(rest).ok_or(Failure::BadEscape)?;
+        bytes.push(byte)?;
         rest = behind;
     }
     Ok(bytes)

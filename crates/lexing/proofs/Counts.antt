@@ -1,5 +1,5 @@
 -- Counting the tokens of a text one by one: what is counted so far, joined with what is left.
-use Rattle.std.proofs.Common.{◌≡◌, ℕ, zero, suc, ◌+◌, ◌-◌, ◌<◌, ◌≤◌, Bool, true, false, List, [], length, Ok, Err, Result, sym, refl, ap, ◌∙◌, add-zero, arith, le-leb}
+use Rattle.std.proofs.Common.{◌≡◌, ℕ, zero, suc, ◌+◌, ◌<◌, ◌≤◌, Bool, true, false, List, [], length, Ok, Err, Result, sym, refl, ap, ◌∙◌, arith, le-leb}
 use borrow.Author.Tests.{lt-leb}
 use Rattle.lexing.specs.declared.fault.Question.TheVariants.{TextLength, TokenCount}
 use Rattle.lexing.specs.Tokens.{Lexeme, Refusal, token_at}
@@ -42,53 +42,21 @@ abbrev pub joined : ℕ → Result (List Lexeme) Refusal → Result ℕ Refusal
 joined n (Ok ts) = Ok (n + length ts)
 joined n (Err e) = Err e
 
--- the tokens that are left at `offset`, where some were counted
-abbrev pub left : ℕ → ℕ → List ℕ → Result ℕ Refusal
-left count offset s = joined count (tokens_from (suc (length s)) (4096 - count) offset s)
-
 joined-none : (a : Result (List Lexeme) Refusal) → counted a ≡ joined 0 a
 joined-none (Ok ts) = ap Ok (omega arith)
 joined-none (Err e) = refl
 
-joined-before : (n : ℕ) (t : Lexeme) (a : Result (List Lexeme) Refusal) → joined n (before t a) ≡ joined (n + 1) a
+pub joined-before : (n : ℕ) (t : Lexeme) (a : Result (List Lexeme) Refusal) → joined n (before t a) ≡ joined (n + 1) a
 joined-before n t (Ok ts) = ap Ok (omega arith)
 joined-before n t (Err e) = refl
 
 abbrev pub length-by : List ℕ → Bool → Result (List Lexeme) Refusal
 length-by s v = elim v [ true ↦ tokens_from (suc (length s)) 4096 0 s | false ↦ Err (record { question = TextLength; place = 0 }) ]
 
--- at the start nothing is counted
-pub left-all : (s : List ℕ) → length s ≤ 16384 → counted (tokens_of s) ≡ left 0 0 s
+-- a text that is short enough
+pub left-all : (s : List ℕ) → length s ≤ 16384 → counted (tokens_of s) ≡ joined 0 (tokens_from (suc (length s)) 4096 0 s)
 left-all s h = ap (λ v. counted (length-by s v)) (le-leb (length s) 16384 h) ∙ joined-none (tokens_from (suc (length s)) 4096 0 s)
 
 -- a text that is too long
 pub too_long : (s : List ℕ) → 16384 < length s → counted (tokens_of s) ≡ Err (record { question = TextLength; place = 0 })
 too_long s h = ap (λ v. counted (length-by s v)) (lt-leb (length s) 16384 h)
-
--- a refusal of the next token
-pub left-refused : (count offset : ℕ) (s : List ℕ) (e : Refusal) → token_at offset s ≡ Err e → left count offset s ≡ Err e
-left-refused count offset s e a = ap (λ v. joined count (from_one (tokens_from (length s)) (4096 - count) v)) a
-
-left-by_end : (count offset : ℕ) (s : List ℕ) (t : Lexeme) (rest : List ℕ) (v : Bool) → token_at offset s ≡ Ok (t, rest) → at_end t.kind ≡ v → left count offset s ≡ joined count (by_end (tokens_from (length s)) (4096 - count) t rest v)
-left-by_end count offset s t rest v a k =
-    ap (λ w. joined count (from_one (tokens_from (length s)) (4096 - count) w)) a
-    ∙ ap (joined count) (from_one-is (tokens_from (length s)) (4096 - count) t rest)
-    ∙ ap (λ w. joined count (by_end (tokens_from (length s)) (4096 - count) t rest w)) k
-
--- the end
-pub left_end : (count offset : ℕ) (s : List ℕ) (t : Lexeme) (rest : List ℕ) → token_at offset s ≡ Ok (t, rest) → at_end t.kind ≡ true → left count offset s ≡ Ok count
-left_end count offset s t rest a k = left-by_end count offset s t rest true a k ∙ ap Ok (add-zero count)
-
--- one token too many
-pub left-full : (count offset : ℕ) (s : List ℕ) (t : Lexeme) (rest : List ℕ) → token_at offset s ≡ Ok (t, rest) → at_end t.kind ≡ false → count ≡ 4096 → left count offset s ≡ Err (record { question = TokenCount; place = t.place })
-left-full count offset s t rest a k f =
-    left-by_end count offset s t rest false a k ∙ ap (λ (n : ℕ). joined count (by_end (tokens_from (length s)) n t rest false)) (let z : 4096 - count ≡ 0 = omega arith in z)
-
--- one token more
-pub left-more : (count offset : ℕ) (s : List ℕ) (t : Lexeme) (rest : List ℕ) → token_at offset s ≡ Ok (t, rest) → at_end t.kind ≡ false → count < 4096 → left count offset s ≡ left (count + 1) (behind t) rest
-left-more count offset s t rest a k f =
-    let l : length rest < length s = token-shorter offset s t rest a k in
-    left-by_end count offset s t rest false a k
-    ∙ ap (λ (n : ℕ). joined count (by_end (tokens_from (length s)) n t rest false)) (let z : 4096 - count ≡ suc (4096 - (count + 1)) = omega arith in z)
-    ∙ joined-before count t (tokens_from (length s) (4096 - (count + 1)) (behind t) rest)
-    ∙ ap (joined (count + 1)) (steps_enough (length s) (suc (length rest)) (4096 - (count + 1)) (behind t) rest l (omega arith))

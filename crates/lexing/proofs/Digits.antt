@@ -1,10 +1,9 @@
 -- What decimal digits mean, as a loop reads them byte by byte.
-use Rattle.std.proofs.Common.{◌≡◌, ℕ, suc, ◌+◌, ◌-◌, ◌*◌, ◌<◌, ◌≤◌, Bool, true, false, ◌&&◌, leb, List, [], ◌∷◌, length, get_or, take, drop, ℤ, Some, None, Option, sym, refl, ap, ◌∙◌, add-one, arith, length-drop, drop-cons, le-leb}
-use borrow.Author.Tests.{lt-leb, both_ways}
-use Rattle.lexing.specs.Classes.{digit, minus}
-use Rattle.std.proofs.lemmas.Slice.{between_to_end}
+use Rattle.std.proofs.Common.{◌≡◌, ℕ, suc, ◌+◌, ◌-◌, ◌*◌, ◌<◌, ◌≤◌, Bool, true, false, ◌&&◌, leb, List, [], ◌∷◌, length, get_or, drop, ℤ, Some, None, Option, sym, refl, ap, ◌∙◌, add-one, arith, length-drop, drop-cons, le-leb}
+use borrow.Author.Tests.{lt-leb}
+use Rattle.lexing.specs.Classes.{digit}
 use Rattle.lexing.specs.Runs.{every}
-use Rattle.lexing.specs.Numerals.{decimal, bound, with_sign, signed_32, only, meaning, number_of}
+use Rattle.lexing.specs.Numerals.{decimal, bound, with_sign, signed_32, only, meaning}
 
 -- what digits mean behind a number that was read so far
 abbrev pub going : Bool → ℕ → List ℕ → Option ℤ
@@ -58,10 +57,3 @@ ended s n (b ∷ bs) e h = absurd (omega arith)
 -- the end of the digits
 pub going_end : (s : Bool) (n : ℕ) (ds : List ℕ) (i : ℕ) (m : Option ℤ) → length ds ≤ i → n ≤ bound s → m ≡ going s n (drop i ds) → m ≡ Some (with_sign s n)
 going_end s n ds i m k h e = e ∙ ended s n (drop i ds) (simp length-drop (omega arith)) h
-
--- a numeral with a minus
-pub number-minus : (bs : List ℕ) → minus (get_or bs 0 0) ≡ true → meaning true (take (length bs - 1) (drop 1 bs)) ≡ number_of bs
-number-minus [] t = absurd (both_ways (minus 0) refl t)
-number-minus (b ∷ bs) t =
-    let N : Bool → Option ℤ = λ v. elim v [ true ↦ meaning true bs | false ↦ meaning false (b ∷ bs) ] in
-    ap (meaning true) (between_to_end (b ∷ bs) 1 (suc (length bs)) (omega arith)) ∙ ap N (sym t)

@@ -6,6 +6,7 @@ pub mod Shapes
 pub mod Offsets
 pub mod Walks
 pub mod Counts
+pub mod Streams
 pub mod Longest
 pub mod Cuts
 pub mod KindCases

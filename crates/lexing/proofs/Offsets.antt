@@ -28,6 +28,10 @@ shifted-is offset s h =
     ap (shifted offset) (token-at_is 0 s) ∙ shifted-answer offset (0 + run blank s) (unblanked s) (kind_of (unblanked s))
     ∙ ap (λ q. answer q (unblanked s) (kind_of (unblanked s))) p ∙ sym (token-at_is offset s)
 
+-- the answer about a part of a whole that 64 bits can count
+pub token-held : (offset : ℕ) (s : List ℕ) (a : Result (Lexeme × List ℕ) Refusal) → offset + length s < 18446744073709551616 → a ≡ shifted offset (token_at 0 s) → token_at offset s ≡ a
+token-held offset s a h e = sym (shifted-is offset s h) ∙ sym e
+
 -- the answer about a part of a text that is short enough
 pub token-here : (offset n : ℕ) (s : List ℕ) (a : Result (Lexeme × List ℕ) Refusal) → offset + length s ≡ n → n ≤ 16384 → a ≡ shifted offset (token_at 0 s) → token_at offset s ≡ a
-token-here offset n s a h k e = sym (shifted-is offset s (omega arith)) ∙ sym e
+token-here offset n s a h k = token-held offset s a (omega arith)

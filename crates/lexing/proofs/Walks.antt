@@ -105,6 +105,20 @@ behind-in offset s (Err q) t rest a = let z : ◌≡◌ {A = ℕ} 0 1 = ap ok_in
 pub token-behind : (offset : ℕ) (s : List ℕ) (t : Lexeme) (rest : List ℕ) → token_at offset s ≡ Ok (t, rest) → behind t + length rest ≡ offset + length s
 token-behind offset s t rest e = behind-in offset s (kind_of (unblanked s)) t rest (sym (token-at_is offset s) ∙ e)
 
+-- the rest is a part of the text, and so many bytes on
+rest-in : (offset : ℕ) (s : List ℕ) (v : Result Kind Question) (t : Lexeme) (rest : List ℕ) → answer (offset + run blank s) (unblanked s) v ≡ Ok (t, rest) → length rest ≤ length s
+rest-in offset s (Ok k) t rest a =
+    let m : length (unblanked s) ≡ length s - run blank s = length-drop (run blank s) s in
+    let l : length rest ≡ length (unblanked s) - width (unblanked s) = ap length (sym (ap rest_in a)) ∙ length-drop (width (unblanked s)) (unblanked s) in
+    omega arith
+rest-in offset s (Err q) t rest a = let z : ◌≡◌ {A = ℕ} 0 1 = ap ok_in a in absurd (omega arith)
+
+pub token-rest : (offset : ℕ) (s : List ℕ) (t : Lexeme) (rest : List ℕ) → token_at offset s ≡ Ok (t, rest) → (length rest ≤ length s) × (behind t ≡ offset + (length s - length rest))
+token-rest offset s t rest e =
+    let l = rest-in offset s (kind_of (unblanked s)) t rest (sym (token-at_is offset s) ∙ e) in
+    let b = token-behind offset s t rest e in
+    (l, omega arith)
+
 -- a kind that is not the end's
 pub not_at_end : (k : Kind) → (k ≡ End → ⊥) → at_end k ≡ false
 not_at_end End h = absurd (h refl)

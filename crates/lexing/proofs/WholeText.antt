@@ -8,9 +8,11 @@ use Rattle.lexing.specs.Runs.{every}
 use Rattle.lexing.specs.Tokens.{Lexeme, Refusal, token_at}
 use Rattle.lexing.specs.Texts.{before, at_end, behind, from_one, tokens_from, tokens_of}
 use Rattle.lexing.specs.Answers.{counted}
-use Rattle.lexing.specs.Laws.{Begins, Refused, Right, ended, Walk, Surplus, Stopped, Whole, Scanned}
+use Rattle.lexing.specs.Laws.{Begins, Refused, Right, ended, Walk, Surplus, Stopped, Whole, Scanned, Streamed}
+use Rattle.lexing.specs.Streams.{stream}
 use Rattle.lexing.proofs.Walks.{token-shorter}
 use Rattle.lexing.proofs.Counts.{Others, by_end, from_one-is, steps_enough, length-by}
+use Rattle.lexing.proofs.Streams.{tokens-taken, taken-ok}
 use Rattle.lexing.proofs.FirstToken.{right, right-only, end-blank, ended_is}
 
 -- what the tokens from an offset on say of the text there
@@ -148,3 +150,8 @@ whole-only s (Err e) h = ⊎_elim (λ p. ap Err p.1 ∙ sym (long-is s p.0)) (λ
 -- the law of a whole text
 pub scanned_law : (s : List ℕ) (n : Result ℕ Refusal) → n ≡ counted (tokens_of s) → Scanned s n
 scanned_law s n e = record { tokens = tokens_of s; right = whole-right s; only = whole-only s; count = e }
+
+-- the law of what comes of a text
+pub streamed_law : (s : List ℕ) (xs : List (Result Lexeme Refusal)) → xs ≡ stream s → Streamed s xs
+streamed_law s xs e ts h =
+    e ∙ taken-ok 4096 (stream s) ts (sym (whole-only s (Ok ts) h ∙ short-is s h.short ∙ tokens-taken (suc (length s)) 4096 0 s))

@@ -36,3 +36,8 @@ counted (Err e) = Err e
 abbrev pub count_told : Result ℕ Fault → Result ℕ Refusal
 count_told (Ok n) = Ok n
 count_told (Err e) = Err (refusal e)
+
+-- a token that lends its bytes or a fault, as one of a text's tokens comes
+abbrev pub item : Result Token Fault → Result Lexeme Refusal
+item (Ok t) = Ok (lexeme t)
+item (Err e) = Err (refusal e)

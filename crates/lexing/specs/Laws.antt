@@ -1,5 +1,5 @@
 -- What tokens are, said without the order in which they are looked for: the laws of one token and of a whole text.
-use Rattle.std.specs.Prelude.{◌≡◌, ℕ, ◌+◌, ◌<◌, ◌≤◌, Bool, true, false, ◌&&◌, ◌⊎◌, List, [], ◌∷◌, ◌++◌, length, is_some, Ok, Err, Result}
+use Rattle.std.specs.Prelude.{◌≡◌, ℕ, ◌+◌, ◌<◌, ◌≤◌, Bool, true, false, ◌&&◌, ◌⊎◌, List, [], ◌∷◌, ◌++◌, length, map, is_some, Ok, Err, Result}
 use Rattle.lexing.specs.declared.token.Kind.{Kind}
 use Rattle.lexing.specs.declared.token.Kind.TheVariants.{End, Name, Keyword, Numeral, Mark}
 use Rattle.lexing.specs.declared.fault.Question.{Question}
@@ -140,3 +140,7 @@ pub record Scanned (s : List ℕ) (n : Result ℕ Refusal) : Type 0 where
   pub right : Whole s tokens
   pub only : (b : Result (List Lexeme) Refusal) → Whole s b → b ≡ tokens
   pub count : n ≡ counted tokens
+
+-- the law of the tokens that come of a text one after another: where the text is some tokens, those come
+abbrev pub Streamed : List ℕ → List (Result Lexeme Refusal) → Type 0
+Streamed s xs = (ts : List Lexeme) → Reads s ts → xs ≡ map Ok ts

@@ -1,9 +1,12 @@
 pub mod Numbers
+pub mod KindWords
 pub mod Classes
+pub mod ClassNumbers
 pub mod Runs
 pub mod Spans
 pub mod Numerals
 pub mod Tokens
 pub mod Texts
 pub mod Answers
+pub mod Streams
 pub mod Laws

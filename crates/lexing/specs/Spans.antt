@@ -1,10 +1,6 @@
--- The sets of bytes that blanks, words and digits run over.
-use Rattle.std.specs.Prelude.{ℕ, Bool}
-use Rattle.lexing.specs.declared.span.Span.{Span}
-use Rattle.lexing.specs.declared.span.Span.TheVariants.{Blanks, Word, Digits}
-use Rattle.lexing.specs.Classes.{blank, digit, word_byte}
+-- Calls that answer what a test of a byte does.
+use Rattle.std.specs.Prelude.{◌≡◌, ℕ, Bool}
 
-abbrev pub holds : Span → ℕ → Bool
-holds Blanks = blank
-holds Word = word_byte
-holds Digits = digit
+-- whatever a call answers, the test does
+abbrev pub Tests : (ℕ → Bool → Type 0) → (ℕ → Bool) → Type 0
+Tests post f = (b : ℕ) (r : Bool) → post b r → r ≡ f b

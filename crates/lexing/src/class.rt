@@ -1,76 +1,73 @@
 // The class of a byte, read from a table of all 256 byte values.
-ghost use Rattle.std.specs.Prelude.{◌≡◌};
-ghost use Rattle.lexing.specs.Classes.{class_of, blank, letter, digit, mark, minus, word_byte, letter_like};
+ghost use Rattle.std.specs.Prelude.{◌≡◌, ◌==◌};
+ghost use Rattle.lexing.specs.Classes.{class_of, word_byte, letter_like};
+ghost use Rattle.lexing.specs.ClassNumbers.{class_number};
 
-const CLASSES: [u8; 256] = [
-    0, 0, 0, 0, 0, 0, 0, 0, 0, 1, 1, 0, 0, 1, 0, 0, 0, 0, 0, 0, 0, 0, 0, 0, 0, 0, 0, 0, 0, 0, 0, 0,
-    1, 0, 0, 0, 0, 0, 0, 0, 5, 5, 0, 0, 5, 6, 0, 0, 3, 3, 3, 3, 3, 3, 3, 3, 3, 3, 5, 5, 0, 5, 0, 0,
-    5, 0, 0, 0, 0, 0, 0, 0, 0, 0, 0, 0, 0, 0, 0, 0, 0, 0, 0, 0, 0, 0, 0, 0, 0, 0, 0, 5, 0, 5, 0, 4,
-    0, 2, 2, 2, 2, 2, 2, 2, 2, 2, 2, 2, 2, 2, 2, 2, 2, 2, 2, 2, 2, 2, 2, 2, 2, 2, 2, 5, 0, 5, 0, 0,
-    0, 0, 0, 0, 0, 0, 0, 0, 0, 0, 0, 0, 0, 0, 0, 0, 0, 0, 0, 0, 0, 0, 0, 0, 0, 0, 0, 0, 0, 0, 0, 0,
-    0, 0, 0, 0, 0, 0, 0, 0, 0, 0, 0, 0, 0, 0, 0, 0, 0, 0, 0, 0, 0, 0, 0, 0, 0, 0, 0, 0, 0, 0, 0, 0,
-    0, 0, 0, 0, 0, 0, 0, 0, 0, 0, 0, 0, 0, 0, 0, 0, 0, 0, 0, 0, 0, 0, 0, 0, 0, 0, 0, 0, 0, 0, 0, 0,
-    0, 0, 0, 0, 0, 0, 0, 0, 0, 0, 0, 0, 0, 0, 0, 0, 0, 0, 0, 0, 0, 0, 0, 0, 0, 0, 0, 0, 0, 0, 0, 0,
+// What a byte is to the language, with its number there.
+#[derive(Clone, Copy, PartialEq, Eq, Debug)]
+pub(crate) enum Class {
+    Other = 0,
+    Blank = 1,
+    Letter = 2,
+    Digit = 3,
+    Underscore = 4,
+    Mark = 5,
+    Minus = 6,
+}
+
+const O: Class = Class::Other;
+
+const B: Class = Class::Blank;
+
+const L: Class = Class::Letter;
+
+const D: Class = Class::Digit;
+
+const U: Class = Class::Underscore;
+
+const K: Class = Class::Mark;
+
+const M: Class = Class::Minus;
+
+const CLASSES: [Class; 256] = [
+    O, O, O, O, O, O, O, O, O, B, B, O, O, B, O, O, O, O, O, O, O, O, O, O, O, O, O, O, O, O, O, O,
+    B, O, O, O, O, O, O, O, K, K, O, O, K, M, O, O, D, D, D, D, D, D, D, D, D, D, K, K, O, K, O, O,
+    K, O, O, O, O, O, O, O, O, O, O, O, O, O, O, O, O, O, O, O, O, O, O, O, O, O, O, K, O, K, O, U,
+    O, L, L, L, L, L, L, L, L, L, L, L, L, L, L, L, L, L, L, L, L, L, L, L, L, L, L, K, O, K, O, O,
+    O, O, O, O, O, O, O, O, O, O, O, O, O, O, O, O, O, O, O, O, O, O, O, O, O, O, O, O, O, O, O, O,
+    O, O, O, O, O, O, O, O, O, O, O, O, O, O, O, O, O, O, O, O, O, O, O, O, O, O, O, O, O, O, O, O,
+    O, O, O, O, O, O, O, O, O, O, O, O, O, O, O, O, O, O, O, O, O, O, O, O, O, O, O, O, O, O, O, O,
+    O, O, O, O, O, O, O, O, O, O, O, O, O, O, O, O, O, O, O, O, O, O, O, O, O, O, O, O, O, O, O, O,
 ];
 
-const BLANK: u8 = 1;
+impl Class {
+    fn of(byte: u8) -> Class
+        ensures { class_number result ≡ class_of byte }
+    {
+        CLASSES[byte as usize]
+    }
 
-const LETTER: u8 = 2;
-
-const DIGIT: u8 = 3;
-
-const UNDERSCORE: u8 = 4;
-
-const MARK: u8 = 5;
-
-const MINUS: u8 = 6;
-
-fn class(byte: u8) -> u8
-    ensures { result ≡ class_of byte }
-{
-    CLASSES[byte as usize]
-}
-
-pub(crate) fn is_blank(byte: u8) -> bool
-    ensures { result ≡ blank byte }
-{
-    class(byte) == BLANK
-}
-
-pub(crate) fn is_letter(byte: u8) -> bool
-    ensures { result ≡ letter byte }
-{
-    class(byte) == LETTER
-}
-
-pub(crate) fn is_digit(byte: u8) -> bool
-    ensures { result ≡ digit byte }
-{
-    class(byte) == DIGIT
-}
-
-pub(crate) fn is_mark(byte: u8) -> bool
-    ensures { result ≡ mark byte }
-{
-    class(byte) == MARK
-}
-
-pub(crate) fn is_minus(byte: u8) -> bool
-    ensures { result ≡ minus byte }
-{
-    class(byte) == MINUS
+    // Whether a byte is of this class.
+    pub(crate) fn has(self, byte: u8) -> bool
+        ensures { result ≡ (class_of byte == class_number self) }
+    {
+        Class::of(byte) == self
+    }
 }
 
 // A letter or an underscore: what may not stand directly behind a numeral.
 pub(crate) fn is_letter_like(byte: u8) -> bool
     ensures { result ≡ letter_like byte }
 {
-    matches!(class(byte), LETTER | UNDERSCORE)
+    matches!(Class::of(byte), Class::Letter | Class::Underscore)
 }
 
 // A letter, a digit or an underscore: what a name goes on with.
 pub(crate) fn is_word_byte(byte: u8) -> bool
     ensures { result ≡ word_byte byte }
 {
-    matches!(class(byte), LETTER | DIGIT | UNDERSCORE)
+    matches!(
+        Class::of(byte),
+        Class::Letter | Class::Digit | Class::Underscore
+    )
 }

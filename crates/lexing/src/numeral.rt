@@ -2,7 +2,7 @@
 ghost use Rattle.std.specs.Prelude.{◌≡◌, ◌≤◌};
 ghost use Rattle.lexing.specs.Numerals.{number_of, meaning, with_sign, bound};
 
-use crate::class::{is_digit, is_minus};
+use crate::class::Class;
 
 const GREATEST: u64 = 2_147_483_647;
 
@@ -28,9 +28,10 @@ fn value(negative: bool, digits: &[u8]) -> Option<i32>
         return None;
     }
     let limit = if negative { LEAST_SIZE } else { GREATEST };
+    // A `try_fold` would take the two ways out and the limit into one closure, and be no shorter.
     let mut size = 0;
     for byte in digits {
-        if !is_digit(*byte) {
+        if !Class::Digit.has(*byte) {
             return None;
         }
         size = 10 * size + u64::from(*byte - b'0');
@@ -46,13 +47,7 @@ pub fn number(bytes: &[u8]) -> Option<i32>
     ensures { result ≡ number_of bytes.now }
 {
     match bytes {
-        [] => None,
-        [first, digits @ ..] => {
-            if is_minus(*first) {
-                value(true, digits)
-            } else {
-                value(false, bytes)
-            }
-        }
+        [first, digits @ ..] if Class::Minus.has(*first) => value(true, digits),
+        _ => value(false, bytes),
     }
 }

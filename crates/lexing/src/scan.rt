@@ -5,8 +5,7 @@ ghost use Rattle.lexing.specs.Laws.{Scanned};
 ghost use Rattle.lexing.specs.Texts.{tokens_of};
 
 use crate::fault::{Fault, Question};
-use crate::lex::token_at;
-use crate::token::Kind;
+use crate::tokens::Tokens;
 
 pub const LONGEST_TEXT: usize = 16_384;
 
@@ -23,14 +22,10 @@ pub fn scan(text: &[u8]) -> Result<usize, Fault>
             place: 0,
         });
     }
-    let mut rest = text;
-    let mut offset = 0;
+    // The count is the answer, which `enumerate` would not leave behind at the end.
     let mut count = 0;
-    loop {
-        let (token, behind) = token_at(rest, offset)?;
-        if let Kind::End = token.kind {
-            return Ok(count);
-        }
+    for token in Tokens::new(text) {
+        let token = token?;
         if count == MOST_TOKENS {
             return Err(Fault {
                 question: Question::TokenCount,
@@ -38,7 +33,6 @@ pub fn scan(text: &[u8]) -> Result<usize, Fault>
             });
         }
         count += 1;
-        offset = text.len() - behind.len();
-        rest = behind;
     }
+    Ok(count)
 }

@@ -3,10 +3,10 @@ ghost use Rattle.std.specs.Prelude.{◌≡◌, ◌≤◌, length};
 ghost use Rattle.lexing.specs.Runs.{begins};
 ghost use Rattle.lexing.specs.Tokens.{keyword, word_kind, numeral_kind, numeral_width, numeral_begins, width, kind_of};
 
-use crate::class::{is_digit, is_letter, is_letter_like, is_mark, is_minus};
+use crate::class::{Class, is_letter_like, is_word_byte};
 use crate::fault::Question;
 use crate::numeral::number;
-use crate::span::Span;
+use crate::span::front;
 use crate::token::Kind;
 
 const LONGEST_NAME: usize = 24;
@@ -14,28 +14,28 @@ const LONGEST_NAME: usize = 24;
 fn is_keyword(word: &[u8]) -> bool
     ensures { result ≡ keyword word.now }
 {
-    match word {
+    matches!(
+        word,
         b"fun"
-        | b"let"
-        | b"print"
-        | b"if"
-        | b"else"
-        | b"region"
-        | b"case"
-        | b"call"
-        | b"list"
-        | b"nil"
-        | b"cons"
-        | b"int"
-        | b"add"
-        | b"sub"
-        | b"mul"
-        | b"div"
-        | b"rem"
-        | b"eq"
-        | b"lt" => true,
-        _ => false,
-    }
+            | b"let"
+            | b"print"
+            | b"if"
+            | b"else"
+            | b"region"
+            | b"case"
+            | b"call"
+            | b"list"
+            | b"nil"
+            | b"cons"
+            | b"int"
+            | b"add"
+            | b"sub"
+            | b"mul"
+            | b"div"
+            | b"rem"
+            | b"eq"
+            | b"lt"
+    )
 }
 
 fn word_kind(word: &[u8]) -> Result<Kind, Question>
@@ -53,13 +53,12 @@ fn word_kind(word: &[u8]) -> Result<Kind, Question>
 fn numeral_kind(numeral: &[u8], rest: &[u8]) -> Result<Kind, Question>
     ensures { result ≡ numeral_kind numeral.now rest.now }
 {
-    if !rest.is_empty() && is_letter_like(rest[0]) {
+    if rest.first().is_some_and(|byte| is_letter_like(*byte)) {
         return Err(Question::NumeralFits);
     }
-    match number(numeral) {
-        Some(_) => Ok(Kind::Numeral),
-        None => Err(Question::NumeralFits),
-    }
+    number(numeral)
+        .map(|_| Kind::Numeral)
+        .ok_or(Question::NumeralFits)
 }
 
 // Whether a numeral begins here: a digit, or a minus with a digit behind it.
@@ -69,10 +68,10 @@ fn begins_numeral(body: &[u8]) -> bool
     match body {
         [] => false,
         [first, rest @ ..] => {
-            if is_minus(*first) {
-                !rest.is_empty() && is_digit(rest[0])
+            if Class::Minus.has(*first) {
+                rest.first().is_some_and(|byte| Class::Digit.has(*byte))
             } else {
-                is_digit(*first)
+                Class::Digit.has(*first)
             }
         }
     }
@@ -85,10 +84,10 @@ fn numeral_width(body: &[u8]) -> usize
     match body {
         [] => 0,
         [first, rest @ ..] => {
-            if is_minus(*first) {
-                1 + Span::Digits.front(rest)
+            if Class::Minus.has(*first) {
+                1 + front(rest, |byte| Class::Digit.has(byte))
             } else {
-                Span::Digits.front(body)
+                front(body, |byte| Class::Digit.has(byte))
             }
         }
     }
@@ -101,11 +100,11 @@ pub(crate) fn token_width(body: &[u8]) -> usize
 {
     if body.is_empty() {
         0
-    } else if is_letter(body[0]) {
-        Span::Word.front(body)
+    } else if Class::Letter.has(body[0]) {
+        front(body, is_word_byte)
     } else if begins_numeral(body) {
         numeral_width(body)
-    } else if is_mark(body[0]) {
+    } else if Class::Mark.has(body[0]) {
         1
     } else {
         0
@@ -121,11 +120,11 @@ pub(crate) fn token_kind(body: &[u8], size: usize) -> Result<Kind, Question>
         return Ok(Kind::End);
     }
     let (bytes, rest) = body.split_at(size);
-    if is_letter(body[0]) {
+    if Class::Letter.has(body[0]) {
         word_kind(bytes)
     } else if begins_numeral(body) {
         numeral_kind(bytes, rest)
-    } else if is_mark(body[0]) {
+    } else if Class::Mark.has(body[0]) {
         Ok(Kind::Mark)
     } else {
         Err(Question::FirstByte)

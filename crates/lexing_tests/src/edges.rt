@@ -82,14 +82,10 @@ fn earlier_questions_come_first_from_the_left(rt: HostRuntime) {
 
 #[test]
 fn the_end_comes_behind_the_last_blank(rt: HostRuntime) -> Result<(), Fail> {
-    match token(b" \t\r\n") {
-        Ok((end, rest)) => {
-            assert_eq!(rt; end.kind.number(), 0);
-            assert_eq!(rt; end.place, 4);
-            assert_eq!(rt; end.bytes.len(), 0);
-            assert_eq!(rt; rest.len(), 0);
-            Ok(())
-        }
-        Err(_) => Err(Fail::new("refused")),
-    }
+    let (end, rest) = token(b" \t\r\n").map_err(|_| Fail::new("refused"))?;
+    assert_eq!(rt; end.kind.number(), 0);
+    assert_eq!(rt; end.place, 4);
+    assert_eq!(rt; end.bytes.len(), 0);
+    assert_eq!(rt; rest.len(), 0);
+    Ok(())
 }

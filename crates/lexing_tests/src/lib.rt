@@ -4,4 +4,6 @@
 #[cfg(test)]
 mod edges;
 #[cfg(test)]
+mod stream;
+#[cfg(test)]
 mod words;

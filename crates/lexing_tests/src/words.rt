@@ -12,16 +12,12 @@ fn first(
     bytes: &[u8],
     rest: &[u8],
 ) -> Result<(), Fail> {
-    match token(text) {
-        Ok((found, behind)) => {
-            assert_eq!(rt; found.kind.number(), kind);
-            assert_eq!(rt; found.place, place);
-            assert!(rt; found.bytes == bytes);
-            assert!(rt; behind == rest);
-            Ok(())
-        }
-        Err(fault) => Err(Fail::new(fault.question.number())),
-    }
+    let (found, behind) = token(text).map_err(|fault| Fail::new(fault.question.number()))?;
+    assert_eq!(rt; found.kind.number(), kind);
+    assert_eq!(rt; found.place, place);
+    assert!(rt; found.bytes == bytes);
+    assert!(rt; behind == rest);
+    Ok(())
 }
 
 #[test]
@@ -55,10 +51,8 @@ fn words_and_numerals_are_as_long_as_they_can_be(rt: HostRuntime) -> Result<(), 
 
 #[test]
 fn a_place_counts_the_offset(rt: HostRuntime) -> Result<(), Fail> {
-    match token_at(b"  x", 40) {
-        Ok((found, _)) => assert_eq!(rt; found.place, 42),
-        Err(_) => return Err(Fail::new("refused")),
-    }
+    let (found, _) = token_at(b"  x", 40).map_err(|_| Fail::new("refused"))?;
+    assert_eq!(rt; found.place, 42);
     match token_at(b" $", 7) {
         Ok(_) => Err(Fail::new("passed")),
         Err(fault) => {

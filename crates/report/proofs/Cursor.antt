@@ -1,47 +1,42 @@
--- A cursor's way over the bytes, as a loop goes it byte by byte.
-use mathlib.Core.Path.{◌≡◌, refl, sym, ap, ◌∙◌}
-use mathlib.Core.Bool.{Bool, true, false}
-use mathlib.Core.List.{List, [], ◌∷◌}
-use Prim.Native.Nat.{ℕ, suc, ◌+◌, ◌<◌, ◌≤◌, min}
-use native.Mathlib.Numerals.{add-one}
-use native.Mathlib.Omega.{arith}
-use lib.Dec.{eqb, leb}
-use lib.ListN.{length, get_or, take, drop, length-drop}
-use native.Mathlib.Nat.{min-eq_left, min-eq_right, le_of_lt}
-use lib.Seq.{drop-cons, take_all, take-length}
-use borrow.Author.Tests.{eq-eqb, ne_eqb, leb-true, leb-false}
+-- A cursor's line and column, counted from the bytes that it went over.
+use Rattle.std.proofs.Common.{◌≡◌, ℕ, ◌+◌, Bool, true, false, cond, not, eqb, List, [], ◌∷◌, ◌++◌, refl, sym, ap, ◌∙◌, append_assoc, append-nil, zero-add, arith}
+use Rattle.std.specs.List.{count_by, prefix_len, suffix_len}
+use Rattle.std.proofs.lemmas.List.{reverse-append}
+use Rattle.std.proofs.lemmas.List.Sums.{sum_by-append}
 use Rattle.report.specs.declared.position.Position.{Position}
-use Rattle.report.specs.Positions.{onward, at}
+use Rattle.report.specs.Positions.{onward, position_of, at}
+
+abbrev pub feed : ℕ → Bool
+feed b = eqb b 10
+
+abbrev pub other : ℕ → Bool
+other b = not (feed b)
+
+-- the line is counted by line feeds, and the column by the bytes behind the last
+abbrev pub counted : List ℕ → Position
+counted bs = at (1 + count_by feed bs) (1 + suffix_len other bs)
+
+count_by-push : (done : List ℕ) (b : ℕ) (v : Bool) → feed b ≡ v → count_by feed (done ++ b ∷ []) ≡ count_by feed done + cond v 1 0
+count_by-push done b v t = sum_by-append (λ x. cond (feed x) 1 0) done (b ∷ []) ∙ ap (λ w. count_by feed done + (0 + cond w 1 0)) t ∙ ap (λ n. count_by feed done + n) (zero-add (cond v 1 0))
+
+suffix_len-push : (done : List ℕ) (b : ℕ) (v : Bool) → feed b ≡ v → suffix_len other (done ++ b ∷ []) ≡ cond (not v) (1 + suffix_len other done) 0
+suffix_len-push done b v t = ap (prefix_len other) (reverse-append done (b ∷ [])) ∙ ap (λ w. cond (not w) (1 + suffix_len other done) 0) t
 
 abbrev by_feed : ℕ → ℕ → List ℕ → Bool → Position
 by_feed l c bs v = elim v [ true ↦ onward (l + 1) 1 bs | false ↦ onward l (c + 1) bs ]
 
-step : (l c : ℕ) (xs : List ℕ) (i : ℕ) (v : Bool) → i < length xs → eqb (get_or xs i 0) 10 ≡ v → onward l c (drop i xs) ≡ by_feed l c (drop (i + 1) xs) v
-step l c xs i v h t =
-    ap (onward l c) (drop-cons xs i 0 h) ∙ ap (by_feed l c (drop (suc i) xs)) t ∙ ap (λ k. by_feed l c (drop k xs) v) (sym (add-one i))
+-- one byte more
+step : (done : List ℕ) (b : ℕ) (bs : List ℕ) (v : Bool) → feed b ≡ v → by_feed (1 + count_by feed done) (1 + suffix_len other done) bs v ≡ onward (1 + count_by feed (done ++ b ∷ [])) (1 + suffix_len other (done ++ b ∷ [])) bs
+step done b bs true t =
+    ap (λ n. onward n 1 bs) (let h = count_by-push done b true t in omega arith)
+    ∙ ap (λ n. onward (1 + count_by feed (done ++ b ∷ [])) n bs) (let h = suffix_len-push done b true t in omega arith)
+step done b bs false t =
+    ap (λ n. onward n (1 + suffix_len other done + 1) bs) (let h = count_by-push done b false t in omega arith)
+    ∙ ap (λ n. onward (1 + count_by feed (done ++ b ∷ [])) n bs) (let h = suffix_len-push done b false t in omega arith)
 
--- a line feed begins a new line
-pub onward-feed : (p : Position) (l c m d : ℕ) (xs : List ℕ) (i : ℕ) → i < length xs → get_or xs i 0 ≡ 10 → m ≡ l + 1 → d ≡ 1 → p ≡ onward l c (drop i xs) → p ≡ onward m d (drop (i + 1) xs)
-onward-feed p l c m d xs i h t y z e = e ∙ step l c xs i true h (eq-eqb (get_or xs i 0) 10 t) ∙ ap (λ n. onward n 1 (drop (i + 1) xs)) (sym y) ∙ ap (λ n. onward m n (drop (i + 1) xs)) (sym z)
+onward-counted : (done bs : List ℕ) → onward (1 + count_by feed done) (1 + suffix_len other done) bs ≡ counted (done ++ bs)
+onward-counted done [] = ap counted (sym (append-nil done))
+onward-counted done (b ∷ bs) = step done b bs (feed b) refl ∙ onward-counted (done ++ b ∷ []) bs ∙ ap counted (append_assoc done (b ∷ []) bs)
 
--- another byte is one more column
-pub onward-byte : (p : Position) (l c m d : ℕ) (xs : List ℕ) (i : ℕ) → i < length xs → (get_or xs i 0 ≡ 10 → ⊥) → m ≡ l → d ≡ c + 1 → p ≡ onward l c (drop i xs) → p ≡ onward m d (drop (i + 1) xs)
-onward-byte p l c m d xs i h t y z e = e ∙ step l c xs i false h (ne_eqb (get_or xs i 0) 10 t) ∙ ap (λ n. onward n (c + 1) (drop (i + 1) xs)) (sym y) ∙ ap (λ n. onward m n (drop (i + 1) xs)) (sym z)
-
-ended : (l c : ℕ) (xs : List ℕ) → length xs ≡ 0 → onward l c xs ≡ at l c
-ended l c [] e = refl
-ended l c (x ∷ xs) e = absurd (omega arith)
-
--- at the end of the bytes the cursor stands
-pub onward-end : (p : Position) (l c : ℕ) (xs : List ℕ) (i : ℕ) → length xs ≤ i → p ≡ onward l c (drop i xs) → at l c ≡ p
-onward-end p l c xs i h e = sym (e ∙ ended l c (drop i xs) (simp length-drop (omega arith)))
-
-min-by : (n : ℕ) (xs : List ℕ) (v : Bool) → leb n (length xs) ≡ v → take (min n (length xs)) xs ≡ take n xs
-min-by n xs true t = ap (λ k. take k xs) (min-eq_left (leb-true n (length xs) t))
-min-by n xs false t =
-    let h : length xs ≤ n = le_of_lt (leb-false n (length xs) t) in
-    ap (λ k. take k xs) (min-eq_right h) ∙ take-length xs ∙ sym (take_all n xs h)
-
--- a front that may be longer than the list
-pub take_min : (n : ℕ) (xs : List ℕ) → take (min n (length xs)) xs ≡ take n xs
-take_min n xs = min-by n xs (leb n (length xs)) refl
+pub position_of-counted : (bs : List ℕ) → position_of bs ≡ counted bs
+position_of-counted bs = onward-counted [] bs

@@ -1,5 +1,6 @@
 -- Lines and columns, as a cursor goes over the bytes of a text.
-use Rattle.std.specs.Prelude.{true, false, List, [], ◌∷◌, ℕ, ◌+◌, ◌==◌}
+use Rattle.std.specs.Prelude.{true, false, List, [], ◌∷◌, ◌++◌, ℕ, ◌+◌, ◌==◌, codes}
+use Rattle.std.specs.Fmt.{decimal}
 use Rattle.report.specs.declared.position.Position.{Position}
 
 abbrev pub at : ℕ → ℕ → Position
@@ -13,3 +14,7 @@ onward line column (b ∷ bs) = elim (b == 10) [ true ↦ onward (line + 1) 1 bs
 -- the position behind some bytes at the start of a text
 abbrev pub position_of : List ℕ → Position
 position_of bs = onward 1 1 bs
+
+-- a position as a person reads it: the line, a colon and the column
+abbrev pub shown : Position → List ℕ
+shown p = decimal p.line ++ (codes ":" ++ decimal p.column)

@@ -9,15 +9,14 @@ pub fn locate(text: &[u8], place: usize) -> Position
     ensures { result ≡ position_of (take place text.now) }
 {
     let (front, _) = text.split_at(place.min(text.len()));
-    let mut line = 1;
-    let mut column = 1;
-    for byte in front {
-        if *byte == b'\n' {
-            line += 1;
-            column = 1;
-        } else {
-            column += 1;
-        }
+    let feeds = front.iter().filter(|byte| **byte == b'\n').count();
+    let behind = front
+        .iter()
+        .rev()
+        .take_while(|byte| **byte != b'\n')
+        .count();
+    Position {
+        line: 1 + feeds,
+        column: 1 + behind,
     }
-    Position { line, column }
 }

@@ -1,30 +1,28 @@
--- A line feed or another byte, and the end.
-use mathlib.Core.Path.{ap, ◌∙◌}
-use native.Mathlib.Omega.{arith}
-use lib.ListN.{take}
-use Rattle.report.specs.Positions.{position_of}
-use Rattle.report.proofs.Cursor.{onward-feed, onward-byte, onward-end, take_min}
+-- The line is counted by line feeds, and the column by the bytes behind the last.
+use Rattle.std.proofs.Common.{◌+◌, sym, ap, ◌∙◌, take, reverse, rules}
+use Rattle.std.specs.List.{count_by}
+use borrow.Author.Tests.{tests}
+use Rattle.std.proofs.lemmas.Iterator.{YieldsList-from_slice}
+use Rattle.std.proofs.lemmas.Iterator.Adapters.{YieldsList-from_rev_slice}
+use Rattle.std.proofs.lemmas.Iterator.Consumers.{YieldsList-at, YieldsList-from_filter, count_from_yields_List}
+use Rattle.std.proofs.lemmas.Iterator.Search.{YieldsList-from_take_while}
+use Rattle.std.proofs.lemmas.List.{take_min}
+use Rattle.std.proofs.lemmas.List.Folds.{length-prefix_len}
+use Rattle.std.proofs.lemmas.List.Sums.{length-filter}
+use Rattle.report.specs.Positions.{position_of, at}
+use Rattle.report.proofs.Cursor.{feed, other, position_of-counted}
 use Rattle.report.proofs.locate.locate.Goals as goal
-use Rattle.report.proofs.locate.locate.Goals.{then-byte-eq10, else-byte-eq10}
-
-pub loop-byte-preserved : goal.loop-byte-preserved
-loop-byte-preserved c =
-    let front = c.split_at.result.0.now in
-    elim c.if-byte-eq10.branch [
-      | then-byte-eq10 w ↦ (
-        omega (arith, w.line-is),
-        omega (arith, w.column-is),
-        onward-feed _ c.loop-byte.line c.loop-byte.column _ _ front c.loop-byte.byte-index (omega arith) w.if-byte-eq10.true w.line-is w.column-is c.loop-byte.invariant.2,
-      )
-      | else-byte-eq10 w ↦ (
-        omega (arith, w.line-is),
-        omega (arith, w.column-is),
-        onward-byte _ c.loop-byte.line c.loop-byte.column _ _ front c.loop-byte.byte-index (omega arith) w.if-byte-eq10.false w.line-is w.column-is c.loop-byte.invariant.2,
-      )
-    ]
 
 pub returns : goal.returns
 returns c =
-    let text = c.args.text.now in
-    onward-end _ c.loop-byte.line c.loop-byte.column c.split_at.result.0.now c.loop-byte.byte-index (omega arith) c.loop-byte.invariant.2
-    ∙ ap position_of (c.split_at.ensures.front ∙ ap (λ n. take n text) c.min.ensures ∙ take_min c.args.place text)
+    let front = c.split_at.result.0.now in
+    let line =
+    count_from_yields_List _ _ c.count-feeds.ensures.ran
+    (YieldsList-from_filter _ feed (YieldsList-at c.filter.ensures.source (YieldsList-from_slice front (cc))) c.filter.ensures.closure (λ x b q k. search (rules, tests)))
+    ∙ length-filter feed front in
+    let column =
+    count_from_yields_List _ _ c.count-behind.ensures.ran
+    (YieldsList-from_take_while _ other (YieldsList-at c.take_while.ensures.source (YieldsList-from_rev_slice front (cc))) c.take_while.ensures.closure c.take_while.ensures.done (λ x b q k. search (rules, tests)))
+    ∙ length-prefix_len other (reverse front) in
+    ap (λ n. at (1 + n) (1 + c.count-behind.result)) line ∙ ap (λ n. at (1 + count_by feed front) (1 + n)) column ∙ sym (position_of-counted front)
+    ∙ ap position_of (c.split_at.ensures.front ∙ ap (λ n. take n c.args.text.now) c.min.ensures ∙ take_min c.args.place c.args.text.now)
