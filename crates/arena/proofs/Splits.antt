@@ -1,36 +1,32 @@
 -- How a stretch of words is cut into regions. Assumes nothing.
-use Rattle.std.specs.Prelude.{◌≡◌, ℕ, zero, suc, ◌+◌, ◌-◌, ◌<◌, ◌≤◌, List, [], ◌∷◌, ◌++◌, length, get_or, take, drop, slice_index, slice_index_or, slice_set, refl}
-use Rattle.std.proofs.Common.{sym, ap, ◌∙◌, arith, ⊎_elim}
-use Rattle.std.proofs.lemmas.List.{take_more, length-take, length-drop, length-append, take-append-le, append_assoc, drop-append-le, take_at, drop_at, take-take, drop-take, drop-drop, length-take-le, ext_get_or, get_or-take, get_or-drop, get_or_append_left, get_or-append_right}
-use Rattle.std.proofs.lemmas.Bool.{cases_lt}
+use Rattle.std.specs.Prelude.{◌≡◌, ℕ, zero, suc, ◌+◌, ◌-◌, ◌<◌, ◌≤◌, List, [], ◌∷◌, ◌++◌, length, take, drop, slice_index, slice_index_or, slice_set, refl}
+use Rattle.std.proofs.Common.{sym, ap, ◌∙◌, arith}
+use Rattle.std.specs.List.{insert_slice}
+use Rattle.std.proofs.Math.Seq.{paste, take-add}
+use Rattle.std.proofs.lemmas.List.{length-take, length-drop, length-append, take-append-le, drop-append-le, take_at, drop_at, take_all, take-take, drop-take, drop-drop, length-take-le}
+use Rattle.std.proofs.lemmas.List.Edits.{length-paste, take-paste, drop-paste}
+use Rattle.std.proofs.lemmas.List.Sums.{sum_by-cons, sum_by_push, sum_by_more_le, sum_by-set}
 use Rattle.regions.specs.Rules.{total}
 use Rattle.arena.specs.Layout.{split}
 use Rattle.regions.specs.Model.{lengths, longer}
 
-pub total_append : (xs ys : List ℕ) → total (xs ++ ys) ≡ total xs + total ys
-total_append [] ys = omega arith
-total_append (x ∷ xs) ys = omega (arith, total_append xs ys)
+pub total-cons : (l : ℕ) (ls : List ℕ) → total (l ∷ ls) ≡ l + total ls
+total-cons = sum_by-cons (λ n. n)
 
-pub total_more : (ls : List ℕ) (i : ℕ) → i < length ls → total (take (i + 1) ls) ≡ total (take i ls) + slice_index ls i
-total_more ls i h =
-    ap total (take_more ls i 0 h) ∙ total_append (take i ls) (slice_index ls i ∷ []) ∙ omega arith
-
-pub total_take : (i : ℕ) (ls : List ℕ) → total (take i ls) ≤ total ls
-total_take zero ls = omega arith
-total_take (suc i) [] = omega arith
-total_take (suc i) (l ∷ ls) = omega (arith, total_take i ls)
-
-pub total_set : (ls : List ℕ) (i n : ℕ) → i < length ls → total (slice_set ls i (slice_index ls i + n)) ≡ total ls + n
-total_set [] i n h = absurd (omega arith)
-total_set (l ∷ ls) zero n h = omega arith
-total_set (l ∷ ls) (suc i) n h = omega (arith, total_set ls i n (omega arith))
+pub total_set : (ls : List ℕ) (i n : ℕ) → i < length ls → total (longer ls i n) ≡ total ls + n
+total_set ls i n h = omega (arith, sum_by-set (λ m. m) ls i (slice_index ls i + n) 0 h)
 
 pub total_push : (ls : List ℕ) → total (ls ++ 0 ∷ []) ≡ total ls
-total_push ls = omega (arith, total_append ls (0 ∷ []))
+total_push ls = omega (arith, sum_by_push (λ n. n) ls 0)
+
+-- a region ends where the next one begins, and within all
+pub region_end : (ls : List ℕ) (p : ℕ) → p < length ls → total (take p ls) + slice_index ls p ≤ total ls
+region_end ls p h = sum_by_more_le (λ n. n) ls p 0 h
 
 pub lengths_split : (ls ws : List ℕ) → total ls ≤ length ws → lengths (split ls ws) ≡ ls
 lengths_split [] ws h = refl
 lengths_split (l ∷ ls) ws h =
+    let e = total-cons l ls in
     let h' : total ls ≤ length (drop l ws) = omega (arith, length-drop l ws) in
     rw (length-take-le l ws (omega arith), lengths_split ls (drop l ws) h')
 
@@ -48,81 +44,84 @@ pub split_at : (ls ws : List ℕ) (p : ℕ) → p < length ls → slice_index_or
 split_at [] ws p h = absurd (omega arith)
 split_at (l ∷ ls) ws zero h = refl
 split_at (l ∷ ls) ws (suc p) h =
-    split_at ls (drop l ws) p (omega arith) ∙ ap (take (slice_index ls p)) (drop-drop (total (take p ls)) l ws)
+    split_at ls (drop l ws) p (omega arith)
+    ∙ ap (take (slice_index ls p)) (drop-drop (total (take p ls)) l ws ∙ ap (λ n. drop n ws) (sym (total-cons l (take p ls))))
 
 -- only the first words count here
 pub split_same : (ls xs ys : List ℕ) → take (total ls) xs ≡ take (total ls) ys → split ls xs ≡ split ls ys
 split_same [] xs ys e = refl
 split_same (l ∷ ls) xs ys e =
+    let e' : take (l + total ls) xs ≡ take (l + total ls) ys = rw total-cons at e in
     let head : take l xs ≡ take l ys =
-    sym (take-take l (l + total ls) xs (omega arith)) ∙ ap (take l) e ∙ take-take l (l + total ls) ys (omega arith)
+    sym (take-take l (l + total ls) xs (omega arith)) ∙ ap (take l) e' ∙ take-take l (l + total ls) ys (omega arith)
     in
     let tail : take (total ls) (drop l xs) ≡ take (total ls) (drop l ys) =
-    sym (drop-take l (total ls) xs) ∙ ap (drop l) e ∙ drop-take l (total ls) ys
+    sym (drop-take l (total ls) xs) ∙ ap (drop l) e' ∙ drop-take l (total ls) ys
     in
     rw (head, split_same ls (drop l xs) (drop l ys) tail)
 
 -- words put in at the end of a region
-pub split_put : (ls ws : List ℕ) (p : ℕ) (new : List ℕ) → p < length ls → total ls ≤ length ws → split (longer ls p (length new)) (take (total (take (suc p) ls)) ws ++ (new ++ drop (total (take (suc p) ls)) ws)) ≡ slice_set (split ls ws) p (slice_index_or (split ls ws) p [] ++ new)
-split_put [] ws p new h f = absurd (omega arith)
-split_put (l ∷ ls) ws zero new h f =
-    let e : l + 0 ≡ l = omega arith in
+pub split_put : (ls ws : List ℕ) (p e : ℕ) (new : List ℕ) → p < length ls → total ls ≤ length ws → e ≡ total (take p ls) + slice_index ls p → split (longer ls p (length new)) (insert_slice ws e new) ≡ slice_set (split ls ws) p (slice_index_or (split ls ws) p [] ++ new)
+split_put [] ws p e new h f at = absurd (omega arith)
+split_put (l ∷ ls) ws zero e new h f at =
+    let whole = total-cons l ls in
+    let is : e ≡ l = omega arith in
     let n : length (take l ws) ≡ l = length-take-le l ws (omega arith) in
     let m : length (take l ws ++ new) ≡ l + length new = length-append (take l ws) new ∙ ap (λ k. k + length new) n in
-    let g : take l ws ++ (new ++ drop l ws) ≡ take l ws ++ new ++ drop l ws = sym (append_assoc (take l ws) new (drop l ws)) in
-    let a : take (l + length new) (take l ws ++ (new ++ drop l ws)) ≡ take l ws ++ new = ap (take (l + length new)) g ∙ take_at (take l ws ++ new) (drop l ws) (l + length new) m in
-    let b : drop (l + length new) (take l ws ++ (new ++ drop l ws)) ≡ drop l ws = ap (drop (l + length new)) g ∙ drop_at (take l ws ++ new) (drop l ws) (l + length new) m in
-    rw (e, a, b)
-split_put (l ∷ ls) ws (suc p) new h f =
-    let t : ℕ = total (take (suc p) ls) in
-    let le : t ≤ length (drop l ws) = omega (arith, total_take (suc p) ls, length-drop l ws) in
-    let n : l ≤ length (take (l + t) ws) = omega (arith, length-take (l + t) ws, length-drop l ws) in
-    let a : take l (take (l + t) ws ++ (new ++ drop (l + t) ws)) ≡ take l ws =
-    take-append-le l (take (l + t) ws) (new ++ drop (l + t) ws) n ∙ take-take l (l + t) ws (omega arith)
+    rw (is, take_at (take l ws ++ new) (drop l ws) (l + length new) m, drop_at (take l ws ++ new) (drop l ws) (l + length new) m)
+split_put (l ∷ ls) ws (suc p) e new h f at =
+    let whole = total-cons l ls in
+    let first = total-cons l (take p ls) in
+    let e' : ℕ = total (take p ls) + slice_index ls p in
+    let is : e ≡ l + e' = omega arith in
+    let le : e' ≤ length (drop l ws) = omega (arith, region_end ls p (omega arith), length-drop l ws) in
+    let n : l ≤ length (take (l + e') ws) = omega (arith, length-take (l + e') ws, length-drop l ws) in
+    let m : l ≤ length (take (l + e') ws ++ new) = omega (arith, length-append (take (l + e') ws) new) in
+    let a : take l (insert_slice ws (l + e') new) ≡ take l ws =
+    take-append-le l (take (l + e') ws ++ new) (drop (l + e') ws) m ∙ take-append-le l (take (l + e') ws) new n ∙ take-take l (l + e') ws (omega arith)
     in
-    let b : drop l (take (l + t) ws ++ (new ++ drop (l + t) ws)) ≡ take t (drop l ws) ++ (new ++ drop t (drop l ws)) =
-    drop-append-le l (take (l + t) ws) (new ++ drop (l + t) ws) n ∙ ap (λ xs. xs ++ (new ++ drop (l + t) ws)) (drop-take l t ws) ∙ ap (λ xs. take t (drop l ws) ++ (new ++ xs)) (sym (drop-drop t l ws))
+    let b : drop l (insert_slice ws (l + e') new) ≡ insert_slice (drop l ws) e' new =
+    drop-append-le l (take (l + e') ws ++ new) (drop (l + e') ws) m
+    ∙ ap (λ xs. xs ++ drop (l + e') ws) (drop-append-le l (take (l + e') ws) new n ∙ ap (λ xs. xs ++ new) (drop-take l e' ws))
+    ∙ ap (λ xs. take e' (drop l ws) ++ new ++ xs) (sym (drop-drop e' l ws))
     in
-    let ih = split_put ls (drop l ws) p new (omega arith) (omega (arith, length-drop l ws)) in
-    rw (a, b) (ap (λ rs. take l ws ∷ rs) ih)
+    rw (is, a, b) (ap (λ rs. take l ws ∷ rs) (split_put ls (drop l ws) p e' new (omega arith) (omega (arith, length-drop l ws)) refl))
 
--- the regions below n do not reach past the end of all
-pub total_below : (n c : ℕ) (ls : List ℕ) → n ≤ c → total (take n ls) ≤ total (take c ls)
-total_below n c ls h = omega (arith, ap total (take-take n c ls h), total_take n (take c ls))
-
-pub region_end : (p c : ℕ) (ls : List ℕ) → p < c → c ≤ length ls → total (take p ls) + slice_index ls p ≤ total (take c ls)
-region_end p c ls h l = omega (arith, total_more ls p (omega arith), total_below (p + 1) c ls (omega arith))
-
--- words put in at e, as they are read one by one
-pub inserted_words : (ws vs new : List ℕ) (e u : ℕ) → e ≤ u → u + length new ≤ length ws → length vs ≡ length ws → ((k : ℕ) → k < e → slice_index vs k ≡ slice_index ws k) → ((k : ℕ) → k < length new → slice_index vs (e + k) ≡ slice_index new k) → ((k : ℕ) → e ≤ k → k < u → slice_index vs (k + length new) ≡ slice_index ws k) → take (u + length new) vs ≡ take (u + length new) (take e ws ++ (new ++ drop e ws))
-inserted_words ws vs new e u le fits same low mid high =
+-- words put in at e, by moving up those from e to u and writing over them
+pub inserted : (ws mid new vs : List ℕ) (e u : ℕ) → e ≤ u → u + length new ≤ length ws → mid ≡ paste ws (e + length new) (drop e ws) (u - e) → vs ≡ paste mid e new (length new) → take (u + length new) vs ≡ insert_slice (take u ws) e new
+inserted ws mid new vs e u le fits m v =
     let n = length new in
-    let te : length (take e ws) ≡ e = length-take-le e ws (omega arith) in
-    let all : length (take e ws ++ (new ++ drop e ws)) ≡ length ws + n =
-    omega (arith, length-append (take e ws) (new ++ drop e ws), length-append new (drop e ws), length-drop e ws)
+    let k = u - e in
+    let on : e + n + k ≡ u + n = omega arith in
+    let up : e + k ≡ u = omega arith in
+    let tail = drop e ws in
+    let tall : length tail ≡ length ws - e = length-drop e ws in
+    let long : length mid ≡ length ws = ap length m ∙ length-paste ws (e + n) tail k (omega arith) (omega arith) in
+    let there : length (take (e + n) ws) ≡ e + n = length-take-le (e + n) ws (omega arith) in
+    let both : take (e + n + k) mid ≡ take (e + n) ws ++ take k tail = ap (take (e + n + k)) m ∙ take-paste ws (e + n) tail k (omega arith) (omega arith) in
+    let low : take e mid ≡ take e (take u ws) =
+    sym (take-take e (e + n + k) mid (omega arith)) ∙ ap (take e) both ∙ take-append-le e (take (e + n) ws) (take k tail) (omega arith)
+    ∙ take-take e (e + n) ws (omega arith) ∙ sym (take-take e u ws le)
     in
-    let long : length (take (u + n) vs) ≡ u + n = length-take-le (u + n) vs (omega arith) in
-    let right : (k : ℕ) → k < u + n → slice_index vs k ≡ get_or (take e ws ++ (new ++ drop e ws)) k 0 =
-    λ k h.
-    ⊎_elim
-    (λ (lt : k < e).
-    let lt' : k < length (take e ws) = omega arith in
-    low k lt ∙ sym (get_or-take e ws k 0 lt) ∙ sym (get_or_append_left (take e ws) (new ++ drop e ws) 0 k lt'))
-    (λ (ge : e ≤ k).
-    let at = get_or-append_right (take e ws) (new ++ drop e ws) e k 0 te ge in
-    ⊎_elim
-    (λ (lt : k - e < n).
-    let back : e + (k - e) ≡ k = omega arith in
-    ap (λ i. slice_index vs i) (sym back) ∙ mid (k - e) lt ∙ sym (get_or_append_left new (drop e ws) 0 (k - e) lt) ∙ sym at)
-    (λ (ge' : n ≤ k - e).
-    let back : k - n + n ≡ k = omega arith in
-    let there : e + (k - e - n) ≡ k - n = omega arith in
-    ap (λ i. slice_index vs i) (sym back) ∙ high (k - n) (omega arith) (omega arith) ∙ ap (λ i. slice_index ws i) (sym there)
-    ∙ sym (get_or-drop e ws (k - e - n) 0) ∙ sym (get_or-append_right new (drop e ws) n (k - e) 0 refl ge') ∙ sym at)
-    (cases_lt (k - e) n))
-    (cases_lt k e)
+    let high : take k (drop (e + n) mid) ≡ drop e (take u ws) =
+    sym (drop-take (e + n) k mid) ∙ ap (drop (e + n)) both ∙ drop_at (take (e + n) ws) (take k tail) (e + n) there
+    ∙ sym (drop-take e k ws) ∙ ap (λ i. drop e (take i ws)) up
     in
-    ext_get_or 0 _ _ (long ∙ sym (length-take-le (u + n) _ (omega arith)))
-    (λ k h.
-    let h' : k < u + n = omega (arith, long) in
-    get_or-take (u + n) vs k 0 h' ∙ right k h' ∙ sym (get_or-take (u + n) _ k 0 h'))
+    let front : take (e + n) vs ≡ take e (take u ws) ++ new =
+    ap (take (e + n)) v ∙ take-paste mid e new n (omega arith) (omega arith) ∙ rw (low, take_all n new (omega arith))
+    in
+    let back : drop (e + n) vs ≡ drop (e + n) mid = ap (drop (e + n)) v ∙ drop-paste mid e new n (omega arith) (omega arith) in
+    ap (λ i. take i vs) (sym on) ∙ take-add (e + n) k vs ∙ rw (front, back, high)
+
+-- the regions after that
+pub put_made : (ls ws vs new : List ℕ) (p e : ℕ) → p < length ls → total ls + length new ≤ length ws → e ≡ total (take p ls) + slice_index ls p → take (total ls + length new) vs ≡ insert_slice (take (total ls) ws) e new → split (longer ls p (length new)) vs ≡ slice_set (split ls ws) p (slice_index_or (split ls ws) p [] ++ new)
+put_made ls ws vs new p e h room at made =
+    let u = total ls in
+    let n = length new in
+    let w : length (take u ws) ≡ u = length-take-le u ws (omega arith) in
+    let end : e ≤ u = omega (arith, region_end ls p h) in
+    let long : length (insert_slice (take u ws) e new) ≡ u + n = omega (arith, length-append (take e (take u ws) ++ new) (drop e (take u ws)), length-append (take e (take u ws)) new, length-drop e (take u ws), length-take-le e (take u ws) (omega arith)) in
+    let same : split ls (take u ws) ≡ split ls ws = split_same ls (take u ws) ws (take-take u u ws (omega arith)) in
+    split_same (longer ls p n) vs (insert_slice (take u ws) e new) (rw (total_set ls p n h) (made ∙ sym (take_all (u + n) (insert_slice (take u ws) e new) (omega arith))))
+    ∙ split_put ls (take u ws) p e new h (omega arith) at
+    ∙ ap (λ rs. slice_set rs p (slice_index_or rs p [] ++ new)) same

@@ -7,6 +7,6 @@ abbrev pub split : List ℕ → List ℕ → Regions
 split [] ws = []
 split (l ∷ ls) ws = take l ws ∷ split ls (drop l ws)
 
--- what an arena holds: its first words, cut by the first lengths of its table
-abbrev pub held : ℕ → List ℕ → List ℕ → Regions
-held count lens ws = split (take count lens) ws
+-- what an arena holds: its first words, cut by its lengths
+abbrev pub held : List ℕ → List ℕ → Regions
+held lens ws = split lens ws

@@ -1,5 +1,6 @@
 // A store whose regions lie one after another in one stretch of the caller's memory.
-ghost use Rattle.std.specs.Prelude.{◌≡◌, ℕ, ◌+◌, ◌<◌, ◌≤◌, [], ◌++◌, length, take, vec_len, slice_index, slice_set};
+ghost use Rattle.std.specs.Prelude.{◌≡◌, ◌+◌, ◌<◌, ◌≤◌, [], ◌++◌, MatchOption, length, take, vec_len, slice_index, slice_set};
+ghost use Rattle.std.specs.List.{insert_slice};
 ghost use Rattle.regions.specs.Model.{region};
 ghost use Rattle.regions.specs.Rules.{total, capacity, arena_rule};
 ghost use Rattle.arena.specs.Layout.{held};
@@ -9,6 +10,7 @@ ghost use Rattle.arena.specs.Counted.{arena_countable};
 use regions::lengths::none_above;
 use regions::refusal::Refusal;
 use regions::store::RegionStore;
+use rows::row::Row;
 
 // How many regions there may be.
 const MOST: usize = 64;
@@ -16,65 +18,34 @@ const MOST: usize = 64;
 // How many words of the memory count.
 const WORDS: usize = 65536;
 
+// The regions lie in the caller's memory, one after another: a list of lists would take memory of its own.
 #[derive(Drop)]
 pub struct Arena {
     memory: Vec<u32>,
-    lens: [usize; MOST],
-    count: usize,
-    ghost slots: { length lens ≡ 64 },
-    ghost few: { count ≤ 64 },
-    ghost fits: { total (take count lens) ≤ capacity (vec_len memory) },
+    lens: Row<usize, MOST>,
+    ghost few: { length lens.items ≤ 64 },
+    ghost fits: { total lens.items ≤ capacity (vec_len memory) },
 }
 
-// The sum of the lengths.
-fn sum(lens: &[usize]) -> usize
-    requires { total lens.now ≤ 65536 }
-    ensures { result ≡ total lens.now }
-{
-    let mut all = 0;
-    for l in lens {
-        all += *l;
-    }
-    all
-}
-
-// Moves the words from `from` to `used` up by `by`.
-fn shift(words: &mut [u32], from: usize, used: usize, by: usize)
-    requires { (from ≤ used) × (used + by ≤ length words.old) }
+// Puts words in at a place of the first `used`, behind which there is room for them.
+fn insert(words: &mut [u32], used: usize, at: usize, new: &[u32])
+    requires { (at ≤ used) × (used + length new.now ≤ length words.old) }
     ensures len { length words.new ≡ length words.old }
-    ensures below { (k : ℕ) → k < from → slice_index words.new k ≡ slice_index words.old k }
-    ensures moved { (k : ℕ) → from ≤ k → k < used → slice_index words.new (k + by) ≡ slice_index words.old k }
+    ensures inserted { take (used + length new.now) words.new ≡ insert_slice (take used words.old) at new.now }
 {
-    let mut i = used;
-    while i > from {
-        i -= 1;
-        words[i + by] = words[i];
-    }
-}
-
-// Copies `new` over the words from `from` on.
-fn write(words: &mut [u32], from: usize, new: &[u32])
-    requires { from + length new.now ≤ length words.old }
-    ensures len { length words.new ≡ length words.old }
-    ensures below { (k : ℕ) → k < from → slice_index words.new k ≡ slice_index words.old k }
-    ensures copied { (k : ℕ) → k < length new.now → slice_index words.new (from + k) ≡ slice_index new.now k }
-    ensures above { (k : ℕ) → from + length new.now ≤ k → slice_index words.new k ≡ slice_index words.old k }
-{
-    for i in 0..new.len() {
-        words[from + i] = new[i];
-    }
+    words.copy_within(at..used, at + new.len());
+    words[at..at + new.len()].copy_from_slice(new);
 }
 
 impl Arena {
     // An arena over this memory, with no region.
     pub fn new(memory: Vec<u32>) -> Arena
-        ensures empty { held result.count result.lens result.memory.items ≡ [] }
+        ensures empty { held result.lens.items result.memory.items ≡ [] }
         ensures memory { result.memory ≡ memory }
     {
         Arena {
             memory,
-            lens: [0; MOST],
-            count: 0,
+            lens: Row::new(0),
         }
     }
 
@@ -82,11 +53,7 @@ impl Arena {
     pub fn into_memory(self) -> Vec<u32>
         ensures { result ≡ self.memory }
     {
-        let Arena {
-            memory,
-            lens: _,
-            count: _,
-        } = self;
+        let Arena { memory, .. } = self;
         memory
     }
 
@@ -98,89 +65,92 @@ impl Arena {
 
     // Where the region at `n` begins, or would begin: the sum of the lengths below it.
     fn begin(&self, n: usize) -> usize
-        requires here { n ≤ self.now.count }
-        ensures is { result ≡ total (take n self.now.lens) }
-        ensures within { result ≤ total (take self.now.count self.now.lens) }
+        requires here { n ≤ length self.now.lens.items }
+        ensures is { result ≡ total (take n self.now.lens.items) }
     {
-        sum(&self.lens[0..n])
+        self.lens[..n].iter().sum()
+    }
+
+    // How many words the regions take.
+    fn used(&self) -> usize
+        ensures { result ≡ total self.now.lens.items }
+    {
+        self.lens.iter().sum()
+    }
+
+    // The words of the region at `position`, if there is one.
+    fn region(&self, position: usize) -> Option<&[u32]>
+        ensures { let rs = held self.now.lens.items self.now.memory.items in MatchOption result (length rs ≤ position) (λ words. (position < length rs) × (words.now ≡ region rs position)) }
+    {
+        let length = *self.lens.get(position)?;
+        let begin = self.begin(position);
+        Some(&self.memory[begin..begin + length])
     }
 
     // Puts words at the end of the region at `position`, where there is room, and says how long it was.
     fn append(&mut self, position: usize, new: &[u32]) -> usize
-        requires here { position < self.old.count }
-        requires room { total (take self.old.count self.old.lens) + length new.now ≤ capacity (vec_len self.old.memory) }
-        ensures old { result ≡ slice_index self.old.lens position }
-        ensures count { self.new.count ≡ self.old.count }
+        requires here { position < length self.old.lens.items }
+        requires room { total self.old.lens.items + length new.now ≤ capacity (vec_len self.old.memory) }
+        ensures old { result ≡ slice_index self.old.lens.items position }
         ensures len { vec_len self.new.memory ≡ vec_len self.old.memory }
-        ensures regions { held self.new.count self.new.lens self.new.memory.items ≡ slice_set (held self.old.count self.old.lens self.old.memory.items) position (region (held self.old.count self.old.lens self.old.memory.items) position ++ new.now) }
+        ensures regions { held self.new.lens.items self.new.memory.items ≡ slice_set (held self.old.lens.items self.old.memory.items) position (region (held self.old.lens.items self.old.memory.items) position ++ new.now) }
     {
-        let count = self.count;
-        let used = self.begin(count);
+        let used = self.used();
         let old = self.lens[position];
         let end = self.begin(position) + old;
-        let words = self.memory.as_mut_slice();
-        shift(words, end, used, new.len());
-        write(words, end, new);
-        self.lens[position] = old + new.len();
+        insert(self.memory.as_mut_slice(), used, end, new);
+        self.lens.set(position, old + new.len());
         old
     }
 }
 
 impl RegionStore for Arena {
-    ghost regions = { λ a. held a.count a.lens a.memory.items };
+    ghost regions = { λ a. held a.lens.items a.memory.items };
 
     ghost grants = { λ a. arena_rule (vec_len a.memory) };
 
     ghost lawful = { λ a. arena_lawful a.memory.len };
 
-    ghost countable = { λ a. arena_countable a.lens a.memory.items a.count a.slots a.few };
+    ghost countable = { λ a. arena_countable a.lens.items a.memory.items a.few };
 
     fn open(&mut self) -> Result<(), Refusal> {
-        if self.count == MOST {
+        if self.lens.len() == MOST {
             return Err(Refusal::Denied);
         }
-        self.lens[self.count] = 0;
-        self.count += 1;
+        self.lens.push(0);
         Ok(())
     }
 
     fn put(&mut self, position: usize, first: u32, second: u32) -> Result<usize, Refusal> {
-        if position >= self.count {
+        if position >= self.lens.len() {
             return Err(Refusal::NoRegion);
         }
         let new = [first, second];
-        let count = self.count;
-        let used = self.begin(count);
-        if new.len() > self.capacity() - used {
+        if new.len() > self.capacity() - self.used() {
             return Err(Refusal::Denied);
         }
         Ok(self.append(position, &new))
     }
 
     fn get(&self, position: usize, place: usize) -> Result<u32, Refusal> {
-        if position >= self.count {
-            return Err(Refusal::NoRegion);
-        }
-        if place >= self.lens[position] {
-            return Err(Refusal::NoWord);
-        }
-        let begin = self.begin(position);
-        Ok(self.memory[begin + place])
+        let words = self.region(position).ok_or(Refusal::NoRegion)?;
+        words.get(place).copied().ok_or(Refusal::NoWord)
     }
 
     fn within(&self, most: usize) -> bool {
-        none_above(&self.lens[0..self.count], most)
+        none_above(&self.lens, most)
     }
 
     fn close(&mut self) -> Result<(), Refusal> {
-        if self.count == 0 {
+        let open = self.lens.len();
+        if open == 0 {
             return Err(Refusal::NoRegion);
         }
-        self.count -= 1;
+        self.lens.truncate(open - 1);
         Ok(())
     }
 
     fn clear(&mut self) {
-        self.count = 0;
+        self.lens.truncate(0);
     }
 }

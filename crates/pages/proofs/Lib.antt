@@ -1,8 +1,10 @@
+pub mod Lists
 pub mod Links
 pub mod Words
-pub mod Joins
-pub mod Counts
-pub mod Starts
-pub mod Appends
-pub mod Ends
 pub mod States
+pub mod Pushes
+pub mod Shuts
+pub mod Rules
+pub mod Opens
+pub mod Starts
+pub mod Counted

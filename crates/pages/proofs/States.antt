@@ -1,101 +1,118 @@
--- What a page store's invariant says of its regions, and what its rule then grants. Assumes nothing.
-use Rattle.std.proofs.Common.{◌≡◌, ℕ, ◌+◌, ◌-◌, ◌*◌, ◌/◌, ◌%◌, ◌<◌, ◌≤◌, min, Bool, leb, List, [], ◌∷◌, ◌++◌, length, get_or, take, ap, ◌∙◌, arith}
-use Rattle.std.proofs.lemmas.List.{length_push, length-set, length-take-le, get_or-take}
-use Rattle.std.proofs.lemmas.Bool.{le-leb}
-use Rattle.regions.specs.Model.{Regions, lengths, region, longer, may_open, may_put}
-use Rattle.regions.specs.Rules.{pages_of, pages_total, pages_rule}
-use Rattle.regions.proofs.Bounds.{and_true}
-use Rattle.pages.specs.Chain.{walk, chains, oldest, holds}
+-- What a page store's invariant says of its regions. Assumes nothing.
+use Rattle.std.proofs.Common.{◌≡◌, ℕ, zero, suc, ◌+◌, ◌-◌, ◌/◌, ◌%◌, ◌<◌, ◌≤◌, List, [], ◌∷◌, length, get_or, map, sym, ap, ◌∙◌, ⊎_elim, arith}
+use Rattle.std.proofs.lemmas.List.{length-map, length-take-le, get_or-take, get_or_past, ext_get_or}
+use Rattle.std.proofs.lemmas.Bool.{cases_lt}
+use Rattle.std.proofs.lemmas.List.Elements.{All-get_or}
+use Rattle.std.specs.Prelude.{All}
+use Rattle.regions.specs.Model.{Regions, lengths, region}
+use Rattle.regions.specs.Rules.{pages_of, pages_total}
+use Rattle.pages.specs.Chain.{texts, links, walk, chain, chains, lengths_of, none, IsEnded, times, times_in, at_most, gather, words_of}
+use Rattle.pages.specs.Held.{holds, way}
+use Rattle.pages.specs.declared.chain.Chain.{Chain}
+use Rattle.pages.specs.declared.chain.Page.{Page}
 use Rattle.pages.specs.declared.pages.Pages.{Pages}
-use Rattle.pages.proofs.Links.{pages_at, pages_set, chains-at, length-walk}
-use Rattle.pages.proofs.Words as words
-use Rattle.pages.proofs.Counts as counts
+use Rattle.pages.proofs.Lists.{get_or-map_default}
+use Rattle.pages.proofs.Links.{bounded_one, bounded_none, times-at, times-two, length-walk}
+use Rattle.pages.proofs.Words.{Inside, inside-at, length-gather, gather-at}
 
--- what all 64 chains hold, and what the regions in use hold
-abbrev pub all_of : Pages → Regions
-all_of x = holds x.words x.next x.tops x.lengths
+pages_at : (cs : List Chain) (i : ℕ) → pages_of (get_or cs i none).length ≤ pages_total (lengths_of cs)
+pages_at [] i = omega arith
+pages_at (c ∷ cs) zero = omega arith
+pages_at (c ∷ cs) (suc i) = omega (arith, pages_at cs i)
 
-abbrev pub regions-of : Pages → Regions
-regions-of x = take x.count (all_of x)
+-- what stands beyond the last page
+abbrev pub blank : Page
+blank = record { words = []; next = 0 }
+
+-- what chains hold over pages
+abbrev pub held : List Page → List Chain → Regions
+held ps cs = map (words_of (texts ps) (links ps)) cs
+
+-- what the invariant says of pages, chains, the first free page, how many are free, and how many there may be
+pub record Kept (ps : List Page) (cs : List Chain) (f n m : ℕ) : Type 0 where
+  pub sized : length ps ≡ 256
+  pub wide : All (λ p. length p.words ≡ 16) ps
+  pub few : (length cs ≤ 64) × (m ≤ 256)
+  pub sum : pages_total (lengths_of cs) + n ≡ m
+  pub once : (x : ℕ) → times_in x (chains (links ps) cs) + times x (walk (links ps) f n) ≤ at_most x
+  pub ends : All (IsEnded (links ps)) cs
+
+-- the chain of the region at p
+abbrev pub at : Pages → ℕ → Chain
+at x p = get_or x.stack.items p none
+
+-- the pages that are free
+abbrev pub rest : Pages → List ℕ
+rest x = walk (links x.pages) x.free x.left
 
 module _ (x : Pages) where
-  pub all_length : length (all_of x) ≡ 64
-  all_length = counts.all_held x.words x.next x.tops x.lengths x.free x.left x.sized.0 x.sized.1 x.sized.2 x.sized.3 x.once
+  pub linked : length (links x.pages) ≡ 256
+  linked = length-map x.pages (λ p. p.next) ∙ x.sized
 
-  pub count_is : length (regions-of x) ≡ x.count
-  count_is = length-take-le x.count (all_of x) (omega (arith, all_length, x.few.0))
+  pub many : length (texts x.pages) ≡ 256
+  many = length-map x.pages (λ p. p.words) ∙ x.sized
 
-  pub lengths_are : lengths (regions-of x) ≡ take x.count x.lengths
-  lengths_are = counts.lengths_are x.words x.next x.tops x.lengths x.free x.left x.sized.0 x.sized.1 x.sized.2 x.sized.3 x.once x.count
+  pub wide_at : (p : ℕ) → p < 256 → length (get_or (texts x.pages) p []) ≡ 16
+  wide_at p h = ap length (get_or-map_default (λ (q : Page). q.words) x.pages p blank) ∙ All-get_or (λ (q : Page). length q.words ≡ 16) x.pages p blank (omega (arith, x.sized)) x.wide
 
-  used : length (take x.count x.lengths) ≡ x.count
-  used = length-take-le x.count x.lengths (omega (arith, x.sized.3, x.few.0))
+  pub ended : (p : ℕ) → p < length x.stack.items → IsEnded (links x.pages) (at x p)
+  ended p h = All-get_or (IsEnded (links x.pages)) x.stack.items p none h x.ends
 
-  used_pages : pages_total (take x.count x.lengths) + x.left ≡ x.most
-  used_pages = omega (arith, x.sum, counts.pages_front x.count x.lengths x.rest)
+  pub chain_at : (p : ℕ) → get_or (chains (links x.pages) x.stack.items) p [] ≡ way x p
+  chain_at p = get_or-map_default (chain (links x.pages)) x.stack.items p none
 
-  -- a region more
-  pub may_open_is : may_open (pages_rule x.most) (regions-of x) ≡ leb (x.count + 1) 64
-  may_open_is =
-      let us = take x.count x.lengths in
-      let rule : pages_rule x.most (us ++ 0 ∷ []) ≡ leb (length us + 1) 64 =
-      rw (length_push us 0, le-leb (pages_total (us ++ 0 ∷ [])) (min x.most 256) (omega (arith, counts.pages_append us (0 ∷ []), used_pages, x.few.1))) (and_true (leb (length us + 1) 64))
-      in
-      ap (λ xs. pages_rule x.most (xs ++ 0 ∷ [])) lengths_are
-      ∙ rule
-      ∙ ap (λ n. leb (n + 1) 64) used
+  -- a page of a region is in no other, and not free
+  pub apart : (q p j : ℕ) → (j ≡ p → ⊥) → 1 ≤ times q (way x p) → times q (way x j) ≡ 0
+  apart q p j ne h = omega (arith, times-two q (chains (links x.pages) x.stack.items) p j ne, x.once q, bounded_one q, ap (times q) (chain_at p), ap (times q) (chain_at j))
 
-  -- where the next region is to be, there is none
-  pub next_is : x.count < 64 → get_or (all_of x) x.count [] ≡ []
-  next_is few =
-      words.held_at x.words x.next x.tops x.lengths x.free x.left x.sized.0 x.sized.1 x.sized.2 x.sized.3 x.once x.count few
-      ∙ rw (x.rest x.count (omega arith))
+  pub once_in : (q p : ℕ) → times q (way x p) + times q (rest x) ≤ 1
+  once_in q p = omega (arith, times-at q (chains (links x.pages) x.stack.items) p, x.once q, bounded_one q, ap (times q) (chain_at p))
 
-  -- the region at p
-  module _ (p : ℕ) (here : p < x.count) where
-    low : p < 64
-    low = omega (arith, x.few.0)
+  pub inside : (p : ℕ) → Inside (way x p)
+  inside p q g = omega (arith, times-at q (chains (links x.pages) x.stack.items) p, x.once q, bounded_none q g, ap (times q) (chain_at p))
 
-    pub region_is : region (regions-of x) p ≡ get_or (all_of x) p []
-    region_is = get_or-take x.count (all_of x) p [] here
+  pub length-way : (p : ℕ) → length (way x p) ≡ pages_of (at x p).length
+  length-way p = length-walk (links x.pages) (at x p).top (pages_of (at x p).length)
 
-    pub length_is : length (region (regions-of x) p) ≡ get_or x.lengths p 0
-    length_is = ap length region_is ∙ words.held_length x.words x.next x.tops x.lengths x.free x.left x.sized.0 x.sized.1 x.sized.2 x.sized.3 x.once p low
+  pub page_below : (p i : ℕ) → i < length (way x p) → get_or (way x p) i 0 < 256
+  page_below p i h = inside-at (way x p) i (inside p) h
 
-    pub word_is : (i : ℕ) → i < get_or x.lengths p 0 → get_or (region (regions-of x) p) i 0 ≡ get_or x.words (16 * get_or (walk x.next (get_or x.tops p 0) (pages_of (get_or x.lengths p 0))) ((get_or x.lengths p 0 - 1) / 16 - i / 16) 0 + i % 16) 0
-    word_is i h =
-        ap (λ ws. get_or ws i 0) region_is
-        ∙ words.held_word x.words x.next x.tops x.lengths x.free x.left x.sized.0 x.sized.1 x.sized.2 x.sized.3 x.once p low i h
+  -- where there are pages, there is a region
+  pub here : (p i : ℕ) → i < length (way x p) → p < length x.stack.items
+  here p i h =
+      ⊎_elim
+      (λ (l : p < length x.stack.items). l)
+      (λ (g : length x.stack.items ≤ p). absurd (omega (arith, h, length-way p, ap (λ (c : Chain). pages_of c.length) (get_or_past x.stack.items p none g))))
+      (cases_lt p (length x.stack.items))
 
-    pub fits : pages_of (get_or x.lengths p 0) + x.left ≤ 256
-    fits = omega (arith, x.sum, x.few.1, pages_at x.lengths p)
+  -- the region at p has as many words as its length says
+  pub region_is : (p : ℕ) → region (holds x) p ≡ words_of (texts x.pages) (links x.pages) (at x p)
+  region_is p = get_or-map_default (words_of (texts x.pages) (links x.pages)) x.stack.items p none
 
-    -- new words for it are granted where the pages that are left suffice
-    pub may_put_is : (new : List ℕ) (b : Bool) → leb (pages_of (get_or x.lengths p 0 + length new)) (pages_of (get_or x.lengths p 0) + x.left) ≡ b → may_put (pages_rule x.most) (regions-of x) p new ≡ b
-    may_put_is new b e =
-        let us = take x.count x.lengths in
-        let n = length new in
-        let at : get_or us p 0 ≡ get_or x.lengths p 0 = get_or-take x.count x.lengths p 0 here in
-        let grown = pages_set us p (get_or us p 0 + n) (omega (arith, used)) in
-        let rule : pages_rule x.most (longer us p n) ≡ leb (pages_total (longer us p n)) (min x.most 256) =
-        rw (length-set us p (get_or us p 0 + n), le-leb (length us) 64 (omega (arith, used, x.few.0)))
-        in
-        ap (λ xs. pages_rule x.most (longer xs p n)) lengths_are
-        ∙ rule
-        ∙ counts.leb_moved (pages_total (longer us p n)) (min x.most 256) (pages_of (get_or x.lengths p 0 + n)) (pages_of (get_or x.lengths p 0) + x.left) (pages_total us) (pages_of (get_or x.lengths p 0)) (omega (arith, grown, ap pages_of at, ap (λ v. pages_of (v + n)) at)) (omega (arith, used_pages, x.few.1))
-        ∙ e
+  pub length_is : (p : ℕ) → length (region (holds x) p) ≡ (at x p).length
+  length_is p =
+      ap length (region_is p)
+      ∙ length-take-le (at x p).length (gather (texts x.pages) (way x p))
+      (omega (arith, length-gather (texts x.pages) wide_at (way x p) (inside p), length-way p))
 
--- the oldest page of a region that has words
-module _ (x : Pages) (p : ℕ) (low : p < 64) (some : 0 < get_or x.lengths p 0) where
-  chain_is : get_or (chains x.next x.tops x.lengths) p [] ≡ walk x.next (get_or x.tops p 0) (pages_of (get_or x.lengths p 0))
-  chain_is = chains-at x.next x.tops x.lengths p (omega (arith, x.sized.2)) (omega (arith, x.sized.3))
+  pub lengths_are : lengths (holds x) ≡ lengths_of x.stack.items
+  lengths_are =
+      ext_get_or 0 _ _ (length-map (holds x) length ∙ length-map x.stack.items (words_of (texts x.pages) (links x.pages)) ∙ sym (length-map x.stack.items (λ c. c.length)))
+      (λ i h. get_or-map_default length (holds x) i [] ∙ length_is i ∙ sym (get_or-map_default (λ (c : Chain). c.length) x.stack.items i none))
 
-  pub bottom_is : get_or x.bottoms p 0 ≡ get_or (walk x.next (get_or x.tops p 0) (pages_of (get_or x.lengths p 0))) (pages_of (get_or x.lengths p 0) - 1) 0
-  bottom_is =
-      let w = walk x.next (get_or x.tops p 0) (pages_of (get_or x.lengths p 0)) in
-      let n = length-walk x.next (get_or x.tops p 0) (pages_of (get_or x.lengths p 0)) in
-      x.ends.1 p (omega (arith, ap length chain_is, n)) ∙ ap oldest chain_is ∙ ap (λ k. get_or w (k - 1) 0) n
+  pub count_is : length (holds x) ≡ length x.stack.items
+  count_is = length-map x.stack.items (words_of (texts x.pages) (links x.pages))
 
-  pub bottom_below : get_or x.bottoms p 0 < 256
-  bottom_below =
-      omega (arith, bottom_is, words.page-below x.next x.tops x.lengths x.free x.left p (pages_of (get_or x.lengths p 0) - 1) x.once (omega (arith, x.sized.2)) (omega (arith, x.sized.3)) (omega arith))
+  pub fits : (p : ℕ) → pages_of (at x p).length + x.left ≤ 256
+  fits p = omega (arith, x.sum, x.few.1, pages_at x.stack.items p)
+
+  -- the word at i of the region at p
+  pub word_is : (p i : ℕ) → i < (at x p).length → get_or (region (holds x) p) i 0 ≡ get_or (get_or (texts x.pages) (get_or (way x p) (((at x p).length - 1) / 16 - i / 16) 0) []) (i % 16) 0
+  word_is p i l =
+      let w = way x p in
+      let n = length-way p in
+      let e : length w - 1 - i / 16 ≡ ((at x p).length - 1) / 16 - i / 16 = omega (arith, n) in
+      ap (λ r. get_or r i 0) (region_is p)
+      ∙ get_or-take (at x p).length (gather (texts x.pages) w) i 0 l
+      ∙ gather-at (texts x.pages) wide_at w i (inside p) (omega (arith, n))
+      ∙ ap (λ b. get_or (get_or (texts x.pages) (get_or w b 0) []) (i % 16) 0) e

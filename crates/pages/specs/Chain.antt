@@ -1,52 +1,63 @@
 -- Regions as chains of 16-word pages, by the links from page to page. Assumes nothing.
-use Rattle.std.specs.Prelude.{ℕ, zero, suc, ◌+◌, ◌-◌, ◌*◌, cond, List, [], ◌∷◌, ◌++◌, length, take, drop, ◌==◌, nat_lt, slice_index}
-use Rattle.regions.specs.Model.{Regions}
+use Rattle.std.specs.Prelude.{◌≡◌, ℕ, zero, suc, ◌-◌, ◌<◌, cond, List, [], ◌∷◌, ◌++◌, length, map, take, count_by, sum_by, ◌==◌, nat_lt, slice_index, slice_index_or}
 use Rattle.regions.specs.Rules.{pages_of}
+use Rattle.pages.specs.declared.chain.Chain.{Chain}
+use Rattle.pages.specs.declared.chain.Page.{Page}
+
+-- the words of each page
+abbrev pub texts : List Page → List (List ℕ)
+texts ps = map (λ p. p.words) ps
+
+-- the page that each page links to
+abbrev pub links : List Page → List ℕ
+links ps = map (λ p. p.next) ps
+
+-- how many words each region has
+abbrev pub lengths_of : List Chain → List ℕ
+lengths_of cs = map (λ c. c.length) cs
 
 -- the n pages from p on, by the links
 abbrev pub walk : List ℕ → ℕ → ℕ → List ℕ
 walk next p zero = []
 walk next p (suc n) = p ∷ walk next (slice_index next p) n
 
--- each region's pages, its newest page first
-abbrev pub chains : List ℕ → List ℕ → List ℕ → List (List ℕ)
-chains next [] ls = []
-chains next (t ∷ ts) [] = []
-chains next (t ∷ ts) (l ∷ ls) = walk next t (pages_of l) ∷ chains next ts ls
+-- a region's pages, its newest page first
+abbrev pub chain : List ℕ → Chain → List ℕ
+chain next c = walk next c.top (pages_of c.length)
+
+-- each region's pages
+abbrev pub chains : List ℕ → List Chain → List (List ℕ)
+chains next cs = map (chain next) cs
 
 -- the last page of a chain
 abbrev pub oldest : List ℕ → ℕ
 oldest ps = slice_index ps (length ps - 1)
 
+-- a region without words
+abbrev pub none : Chain
+none = record { top = 0; bottom = 0; length = 0 }
+
+-- the oldest page of a region that has words is on record
+abbrev pub IsEnded : List ℕ → Chain → Type 0
+IsEnded next c = 0 < c.length → c.bottom ≡ oldest (chain next c)
+
 -- how often x stands in a list
 abbrev pub times : ℕ → List ℕ → ℕ
-times x [] = 0
-times x (y ∷ ys) = cond (x == y) 1 0 + times x ys
+times x ys = count_by (λ y. x == y) ys
 
 -- how often x stands in one of the chains
 abbrev pub times_in : ℕ → List (List ℕ) → ℕ
-times_in x [] = 0
-times_in x (c ∷ cs) = times x c + times_in x cs
+times_in x cs = sum_by (times x) cs
 
 -- every page below 256 at most once, and no other
 abbrev pub at_most : ℕ → ℕ
 at_most x = cond (nat_lt x 256) 1 0
 
--- the 16 words of a page
-abbrev pub page : List ℕ → ℕ → List ℕ
-page ws p = take 16 (drop (16 * p) ws)
-
 -- the words of a chain, its oldest page first
-abbrev pub gather : List ℕ → List ℕ → List ℕ
+abbrev pub gather : List (List ℕ) → List ℕ → List ℕ
 gather ws [] = []
-gather ws (p ∷ ps) = gather ws ps ++ page ws p
+gather ws (p ∷ ps) = gather ws ps ++ slice_index_or ws p []
 
--- the words of each chain, as many as its region's length says
-abbrev pub contents : List ℕ → List (List ℕ) → List ℕ → Regions
-contents ws [] ls = []
-contents ws (c ∷ cs) [] = []
-contents ws (c ∷ cs) (l ∷ ls) = take l (gather ws c) ∷ contents ws cs ls
-
--- what all 64 chains hold
-abbrev pub holds : List ℕ → List ℕ → List ℕ → List ℕ → Regions
-holds ws next ts ls = contents ws (chains next ts ls) ls
+-- the words of a region: as many of its chain's as its length says
+abbrev pub words_of : List (List ℕ) → List ℕ → Chain → List ℕ
+words_of ws next c = take c.length (gather ws (chain next c))

@@ -1,13 +1,14 @@
 // A store that keeps each region as a chain of 16-word pages.
-ghost use Rattle.std.specs.Prelude.{◌≡◌, ℕ, ◌+◌, ◌-◌, ◌%◌, ◌<◌, ◌≤◌, List, [], ◌∷◌, ◌++◌, length, take, if◌then◌else◌, nat_eq, slice_index, slice_index_or, slice_set};
+ghost use Rattle.std.specs.Prelude.{◌≡◌, ℕ, ◌+◌, ◌<◌, ◌≤◌, All, [], ◌∷◌, ◌++◌, length, slice_index, slice_set};
+ghost use Rattle.regions.specs.Model.{region, close_after};
 ghost use Rattle.regions.specs.Rules.{pages_of, pages_total, pages_rule};
-ghost use Rattle.pages.specs.Chain.{walk, chains, oldest, times, times_in, at_most, holds};
-ghost use Rattle.pages.specs.Counted.{front_countable};
-ghost use Rattle.regions.specs.Lawfuls.{pages_lawful};
+ghost use Rattle.pages.specs.Chain.{links, walk, chains, lengths_of, IsEnded, times, times_in, at_most};
 
-use regions::lengths::none_above;
+use crate::chain::{Chain, PAGE, Page};
 use regions::refusal::Refusal;
 use regions::store::RegionStore;
+use rows::row::Row;
+use std::array;
 
 // How many regions there may be.
 const MOST: usize = 64;
@@ -15,29 +16,21 @@ const MOST: usize = 64;
 // How many pages count.
 const PAGES: usize = 256;
 
-// How many words a page has, and all pages together.
-const PAGE: usize = 16;
-
-const WORDS: usize = 4096;
-
-// The chains are linked from the newest page to the oldest, and so is the list of the pages that are free.
+// The chains are linked from the newest page to the oldest, and so is the list of the pages that are free: by numbers of
+// pages, which lie in the store itself, since a store never allocates.
 #[derive(Drop)]
 pub struct Pages {
-    words: [u32; WORDS],
-    next: [usize; PAGES],
-    tops: [usize; MOST],
-    bottoms: [usize; MOST],
-    lengths: [usize; MOST],
-    count: usize,
+    pages: [Page; PAGES],
+    stack: Row<Chain, MOST>,
     free: usize,
     left: usize,
     most: usize,
-    ghost sized: { (length words ≡ 4096) × (length next ≡ 256) × (length tops ≡ 64) × (length lengths ≡ 64) },
-    ghost few: { (count ≤ 64) × (most ≤ 256) },
-    ghost rest: { ((i : ℕ) → count ≤ i → slice_index lengths i ≡ 0) },
-    ghost sum: { pages_total lengths + left ≡ most },
-    ghost once: { ((x : ℕ) → times_in x (chains next tops lengths) + times x (walk next free left) ≤ at_most x) },
-    ghost ends: { (length bottoms ≡ 64) × ((i : ℕ) → 0 < length (slice_index_or (chains next tops lengths) i []) → slice_index bottoms i ≡ oldest (slice_index_or (chains next tops lengths) i [])) },
+    ghost sized: { length pages ≡ 256 },
+    ghost wide: { All (λ p. length p.words ≡ 16) pages },
+    ghost few: { (length stack.items ≤ 64) × (most ≤ 256) },
+    ghost sum: { pages_total (lengths_of stack.items) + left ≡ most },
+    ghost once: { (x : ℕ) → times_in x (chains (links pages) stack.items) + times x (walk (links pages) free left) ≤ at_most x },
+    ghost ends: { All (IsEnded (links pages)) stack.items },
 }
 
 // How many pages hold so many words.
@@ -47,193 +40,142 @@ fn pages_for(length: usize) -> usize
     length.div_ceil(PAGE)
 }
 
-// The oldest page of a region that was so long, after a page was taken for it.
-fn bottom_after(length: usize, page: usize, old: usize) -> usize
-    ensures { result ≡ (if nat_eq length 0 then page else old) }
-{
-    if length == 0 { page } else { old }
-}
-
 impl Pages {
+    ghost use Rattle.pages.specs.Held.{holds, way};
+
     // A store of so many pages, and of 256 at most.
     pub fn new(pages: usize) -> Pages
-        ensures empty { take result.count (holds result.words result.next result.tops result.lengths) ≡ [] }
+        ensures empty { holds result ≡ [] }
         ensures rule { pages_rule result.most ≡ pages_rule pages }
     {
-        let mut next = [0; PAGES];
-        for i in 0..PAGES {
-            next[i] = i + 1;
-        }
         let most = pages.min(PAGES);
         Pages {
-            words: [0; WORDS],
-            next,
-            tops: [0; MOST],
-            bottoms: [0; MOST],
-            lengths: [0; MOST],
-            count: 0,
+            pages: array::from_fn(|i| Page {
+                words: [0; PAGE],
+                next: i + 1,
+            }),
+            stack: Row::new(Chain::default()),
             free: 0,
             left: most,
             most,
         }
     }
 
-    // The page that is `back` links from the newest page of the region at `position`.
+    // The page that is `back` links from the newest page of a region.
     fn page_at(&self, position: usize, back: usize) -> usize
-        requires here { position < 64 }
-        requires far { back < pages_of (slice_index self.now.lengths position) }
-        ensures is { result ≡ slice_index (walk self.now.next (slice_index self.now.tops position) (pages_of (slice_index self.now.lengths position))) back }
+        requires { back < length (way self.now position) }
+        ensures is { result ≡ slice_index (way self.now position) back }
         ensures within { result < 256 }
     {
-        let mut page = self.tops[position];
+        let mut page = self.stack[position].top;
+        // Links are followed by their number: no list of them stands anywhere to go over.
         for _hop in 0..back {
-            page = self.next[page];
+            page = self.pages[page].next;
         }
         page
     }
 
-    // Puts a word after a region's words, in its newest page, which has room.
-    fn push_on(&mut self, position: usize, word: u32)
-        requires here { position < self.old.count }
-        requires part { 0 < slice_index self.old.lengths position % 16 }
-        ensures held { holds self.new.words self.new.next self.new.tops self.new.lengths ≡ slice_set (holds self.old.words self.old.next self.old.tops self.old.lengths) position (slice_index_or (holds self.old.words self.old.next self.old.tops self.old.lengths) position [] ++ word ∷ []) }
-        ensures lengths { self.new.lengths ≡ slice_set self.old.lengths position (slice_index self.old.lengths position + 1) }
-        ensures count { self.new.count ≡ self.old.count }
-        ensures most { self.new.most ≡ self.old.most }
-    {
-        let length = self.lengths[position];
-        let page = self.tops[position];
-        self.words[PAGE * page + length % PAGE] = word;
-        self.lengths[position] = length + 1;
-    }
-
-    // Puts a word after a region's words, in a page from the free list.
-    fn push_new(&mut self, position: usize, word: u32)
-        requires here { position < self.old.count }
-        requires full { slice_index self.old.lengths position % 16 ≡ 0 }
-        requires some { 0 < self.old.left }
-        ensures held { holds self.new.words self.new.next self.new.tops self.new.lengths ≡ slice_set (holds self.old.words self.old.next self.old.tops self.old.lengths) position (slice_index_or (holds self.old.words self.old.next self.old.tops self.old.lengths) position [] ++ word ∷ []) }
-        ensures lengths { self.new.lengths ≡ slice_set self.old.lengths position (slice_index self.old.lengths position + 1) }
-        ensures count { self.new.count ≡ self.old.count }
-        ensures most { self.new.most ≡ self.old.most }
-    {
-        let length = self.lengths[position];
-        let page = self.free;
-        self.free = self.next[page];
-        self.left -= 1;
-        self.next[page] = self.tops[position];
-        self.tops[position] = page;
-        self.bottoms[position] = bottom_after(length, page, self.bottoms[position]);
-        self.words[PAGE * page + length % PAGE] = word;
-        self.lengths[position] = length + 1;
-    }
-
+    // Puts a word after a region's words: in its newest page, or where that is full in one from the free list.
     fn push(&mut self, position: usize, word: u32)
-        requires here { position < self.old.count }
-        requires room { pages_of (slice_index self.old.lengths position + 1) ≤ pages_of (slice_index self.old.lengths position) + self.old.left }
-        ensures held { (holds self.new.words self.new.next self.new.tops self.new.lengths) ≡ slice_set (holds self.old.words self.old.next self.old.tops self.old.lengths) position (slice_index_or (holds self.old.words self.old.next self.old.tops self.old.lengths) position [] ++ word ∷ []) }
-        ensures lengths { self.new.lengths ≡ slice_set self.old.lengths position (slice_index self.old.lengths position + 1) }
-        ensures count { self.new.count ≡ self.old.count }
+        requires here { position < length self.old.stack.items }
+        requires room { pages_of (length (region (holds self.old) position) + 1) ≤ pages_of (length (region (holds self.old) position)) + self.old.left }
+        ensures held { holds self.new ≡ slice_set (holds self.old) position (region (holds self.old) position ++ word ∷ []) }
         ensures most { self.new.most ≡ self.old.most }
     {
-        if self.lengths[position] % PAGE == 0 {
-            self.push_new(position, word);
+        let chain = self.stack[position];
+        let place = chain.length % PAGE;
+        if place > 0 {
+            self.pages[chain.top].words[place] = word;
+            self.stack.set(
+                position,
+                Chain {
+                    length: chain.length + 1,
+                    ..chain
+                },
+            );
         } else {
-            self.push_on(position, word);
+            let page = self.free;
+            self.free = self.pages[page].next;
+            self.left -= 1;
+            // No one reads the other words before they are written.
+            self.pages[page] = Page {
+                words: [word; PAGE],
+                next: chain.top,
+            };
+            self.stack.set(
+                position,
+                Chain {
+                    top: page,
+                    bottom: chain.bottom_after(page),
+                    length: chain.length + 1,
+                },
+            );
         }
     }
 
-    fn append(&mut self, position: usize, new: &[u32])
-        requires here { position < self.old.count }
-        requires room { pages_of (slice_index self.old.lengths position + length new.now) ≤ pages_of (slice_index self.old.lengths position) + self.old.left }
-        ensures held { (holds self.new.words self.new.next self.new.tops self.new.lengths) ≡ slice_set (holds self.old.words self.old.next self.old.tops self.old.lengths) position (slice_index_or (holds self.old.words self.old.next self.old.tops self.old.lengths) position [] ++ new.now) }
-        ensures count { self.new.count ≡ self.old.count }
-        ensures most { self.new.most ≡ self.old.most }
-    {
-        for word in new {
-            self.push(position, *word);
-        }
-    }
-
-    // Gives a region's whole chain back to the free list, by one link.
-    fn empty(&mut self, position: usize)
-        requires here { position < 64 }
-        ensures below { take position (holds self.new.words self.new.next self.new.tops self.new.lengths) ≡ take position (holds self.old.words self.old.next self.old.tops self.old.lengths) }
-        ensures none { slice_index self.new.lengths position ≡ 0 }
-        ensures count { self.new.count ≡ self.old.count }
-        ensures most { self.new.most ≡ self.old.most }
-    {
-        let length = self.lengths[position];
-        if length > 0 {
-            let bottom = self.bottoms[position];
-            self.next[bottom] = self.free;
-            self.free = self.tops[position];
-            self.left = pages_for(length) + self.left;
-            self.lengths[position] = 0;
-        }
-    }
-
-    // Closes the top region.
+    // Takes the top region away, and gives its whole chain back to the free list by one link.
     fn shut(&mut self)
-        requires some { 0 < self.old.count }
-        ensures below { take (self.old.count - 1) (holds self.new.words self.new.next self.new.tops self.new.lengths) ≡ take (self.old.count - 1) (holds self.old.words self.old.next self.old.tops self.old.lengths) }
-        ensures count { self.new.count ≡ self.old.count - 1 }
+        requires some { 0 < length self.old.stack.items }
+        ensures held { holds self.new ≡ close_after (holds self.old) }
         ensures most { self.new.most ≡ self.old.most }
     {
-        let top = self.count - 1;
-        self.empty(top);
-        self.count = top;
+        let top = self.stack.len() - 1;
+        let chain = self.stack[top];
+        self.stack.truncate(top);
+        if chain.length > 0 {
+            self.pages[chain.bottom].next = self.free;
+            self.free = chain.top;
+            self.left += pages_for(chain.length);
+        }
     }
 }
 
 impl RegionStore for Pages {
-    ghost regions = { λ s. take s.count (holds s.words s.next s.tops s.lengths) };
+    ghost use Rattle.regions.specs.Rules.{pages_rule};
+    ghost use Rattle.regions.specs.Lawfuls.{pages_lawful};
+    ghost use Rattle.pages.specs.Held.{holds, holds_countable};
+
+    ghost regions = { holds };
 
     ghost grants = { λ s. pages_rule s.most };
 
     ghost lawful = { λ s. pages_lawful s.most };
 
-    ghost countable = { λ s. front_countable s.count (holds s.words s.next s.tops s.lengths) s.few.0 };
+    ghost countable = { holds_countable };
 
     fn open(&mut self) -> Result<(), Refusal> {
-        if self.count == MOST {
+        if self.stack.len() == MOST {
             return Err(Refusal::Denied);
         }
-        self.count += 1;
+        self.stack.push(Chain::default());
         Ok(())
     }
 
     fn put(&mut self, position: usize, first: u32, second: u32) -> Result<usize, Refusal> {
-        if position >= self.count {
-            return Err(Refusal::NoRegion);
-        }
-        let new = [first, second];
-        let length = self.lengths[position];
-        if new.len() > PAGE * (self.left + pages_for(length)) - length {
+        let length = self.stack.get(position).ok_or(Refusal::NoRegion)?.length;
+        if pages_for(length + 2) > pages_for(length) + self.left {
             return Err(Refusal::Denied);
         }
-        self.append(position, &new);
+        self.push(position, first);
+        self.push(position, second);
         Ok(length)
     }
 
     fn get(&self, position: usize, place: usize) -> Result<u32, Refusal> {
-        if position >= self.count {
-            return Err(Refusal::NoRegion);
-        }
-        let length = self.lengths[position];
+        let length = self.stack.get(position).ok_or(Refusal::NoRegion)?.length;
         if place >= length {
             return Err(Refusal::NoWord);
         }
         let page = self.page_at(position, (length - 1) / PAGE - place / PAGE);
-        Ok(self.words[PAGE * page + place % PAGE])
+        Ok(self.pages[page].words[place % PAGE])
     }
 
     fn within(&self, most: usize) -> bool {
-        none_above(&self.lengths[0..self.count], most)
+        self.stack.iter().all(|chain| chain.length <= most)
     }
 
     fn close(&mut self) -> Result<(), Refusal> {
-        if self.count == 0 {
+        if self.stack.is_empty() {
             return Err(Refusal::NoRegion);
         }
         self.shut();
@@ -241,7 +183,7 @@ impl RegionStore for Pages {
     }
 
     fn clear(&mut self) {
-        while self.count > 0 {
+        for _region in 0..self.stack.len() {
             self.shut();
         }
     }

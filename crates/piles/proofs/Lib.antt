@@ -1,1 +1,2 @@
+pub mod Lawfuls
 pub mod Leasts

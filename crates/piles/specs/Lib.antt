@@ -1,4 +1,4 @@
+pub mod Either
 pub mod Ground
 pub mod Pile
 pub mod Build
-pub mod Lawfuls

@@ -1,14 +1,16 @@
 // Stores made by their description: the kind, its size, and the quotas, the innermost first.
-ghost use Rattle.std.specs.Prelude.{◌≡◌, [], Ok};
-ghost use Rattle.piles.specs.declared.ground.Ground.{Ground};
-ghost use Rattle.piles.specs.Ground.{ground_regions, ground_rule};
-ghost use Rattle.piles.specs.Build.{kind_rule, piled, least, Built};
+ghost use Rattle.std.specs.Prelude.{◌≡◌, [], Ok, min, drop};
+ghost use Rattle.std.specs.List.{reduce};
+ghost use Rattle.piles.specs.Ground.{OfKind, ground_regions, ground_rule};
+ghost use Rattle.piles.specs.Pile.{under_regions, under_rule};
+ghost use Rattle.piles.specs.Build.{kind_rule, quota_if, piled, Built};
 
-use crate::ground::Ground;
-use crate::pile::Pile;
+use crate::either::Either;
+use crate::pile::{Ground, Pile, Under};
 use arena::arena::Arena;
 use pages::pages::Pages;
 use regions::quota::Quota;
+use regions::store::RegionStore;
 use std::alloc::{AllocError, Global};
 
 // How many words of an arena's memory count.
@@ -20,28 +22,35 @@ pub enum Kind {
     Pages,
 }
 
-// The least of a number and others.
-fn smallest(first: usize, rest: &[usize]) -> usize
-    ensures { result ≡ least first rest.now }
+// The least of the quotas over the innermost, if there are any.
+fn outer(quotas: &[usize]) -> Option<usize>
+    ensures { result ≡ reduce min (drop 1 quotas.now) }
 {
-    let mut low = first;
-    for q in rest {
-        low = low.min(*q);
-    }
-    low
+    quotas.iter().skip(1).copied().reduce(usize::min)
 }
 
 // A new store of this kind, with no region.
 fn ground(heap: Global, kind: Kind, size: usize) -> Result<Ground, AllocError>
-    ensures empty { (g : Ground) → result ≡ Ok g → ground_regions g ≡ [] }
-    ensures rule { (g : Ground) → result ≡ Ok g → ground_rule g ≡ kind_rule kind size }
+    ensures empty { (g : OfKind) → result ≡ Ok g → ground_regions g ≡ [] }
+    ensures rule { (g : OfKind) → result ≡ Ok g → ground_rule g ≡ kind_rule kind size }
 {
     match kind {
         Kind::Words => {
             let memory = vec![in heap; 0u32; size.min(WORDS)]?;
-            Ok(Ground::Stretch(Arena::new(memory)))
+            Ok(Either::Left(Arena::new(memory)))
         }
-        Kind::Pages => Ok(Ground::Paged(Pages::new(size))),
+        Kind::Pages => Ok(Either::Right(Pages::new(size))),
+    }
+}
+
+// A store under this quota, if there is one.
+fn under<S: RegionStore>(store: S, quota: Option<usize>) -> Under<S>
+    ensures regions { under_regions S.RegionStore.regions result ≡ S.RegionStore.regions store }
+    ensures rule { under_rule S.RegionStore.grants result ≡ quota_if quota (S.RegionStore.grants store) }
+{
+    match quota {
+        Some(quota) => Either::Right(Quota::over(store, quota)),
+        None => Either::Left(store),
     }
 }
 
@@ -50,13 +59,6 @@ pub fn build(heap: Global, kind: Kind, size: usize, quotas: &[usize]) -> Result<
     ensures { Built (piled (kind_rule kind size) quotas.now) result }
 {
     let store = ground(heap, kind, size)?;
-    if quotas.is_empty() {
-        return Ok(Pile::Bare(store));
-    }
-    let inner = Quota::over(store, quotas[0]);
-    if quotas.len() == 1 {
-        return Ok(Pile::Once(inner));
-    }
-    let outer = smallest(quotas[1], &quotas[2..]);
-    Ok(Pile::Twice(Quota::over(inner, outer)))
+    let inner = under(store, quotas.first().copied());
+    Ok(under(inner, outer(quotas)))
 }

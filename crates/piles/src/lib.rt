@@ -1,5 +1,5 @@
 #![tactic(auto)]
 
 pub mod build;
-pub mod ground;
+pub mod either;
 pub mod pile;

@@ -2,7 +2,6 @@
 use Rattle.std.proofs.Common.{◌≡◌, ℕ, ◌<◌, ◌≤◌, true, false, List, [], ◌∷◌, ◌++◌, length, get_or, set, Ok, Err, arith}
 use Rattle.std.proofs.lemmas.Bool.{lt-ltb, le-ltb}
 use Rattle.std.proofs.lemmas.Bool.Decides.{nat_tests}
-use Rattle.regions.specs.declared.refusal.Refusal.{Refusal}
 use Rattle.regions.specs.declared.refusal.Refusal.TheVariants.{Denied, NoRegion, NoWord}
 use Rattle.regions.specs.Model.{Regions, Rule, region, may_open, open_answer, open_after, may_put, put_answer, put_after, get_answer, close_answer}
 
@@ -37,9 +36,6 @@ module _ (rs : Regions) (p i : ℕ) where
 
   pub told_past : get_answer rs p i ≡ Err NoWord → (p < length rs) × (length (region rs p) ≤ i)
   told_past e = grind (arith, nat_tests)
-
-  pub told_none : (r : Refusal) → get_answer rs p i ≡ Err r → (r ≡ NoWord → ⊥) → (length rs ≤ p) × (r ≡ NoRegion)
-  told_none r e n = grind (arith, nat_tests)
 
 pub close_some : (rs : Regions) → 0 < length rs → close_answer rs ≡ Ok tt
 close_some rs h = rw (lt-ltb 0 (length rs) h)

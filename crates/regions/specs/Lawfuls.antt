@@ -1,13 +1,16 @@
 -- The rules of the three stores are lawful. Assumes nothing.
-use Rattle.std.specs.Prelude.{◌≡◌, ℕ, ◌≤◌, min, true, List, [], ◌∷◌, length, nat_le, refl}
+use Rattle.std.specs.Prelude.{◌≡◌, ℕ, ◌+◌, ◌≤◌, min, true, List, [], ◌∷◌, length, nat_le, refl}
 use Rattle.std.proofs.Common.{arith}
 use Rattle.std.proofs.lemmas.Bool.{and_parts, and_from, le-leb, leb-true}
+use Rattle.std.proofs.lemmas.List.Sums.{sum_by-cons}
 use Rattle.regions.specs.Model.{within}
 use Rattle.regions.specs.Rules.{total, capacity, pages_total, ArenaLawful, PagesLawful, QuotaLawful}
 
 total_short : (n : ℕ) (ls : List ℕ) → total ls ≤ n → within n ls ≡ true
 total_short n [] h = refl
-total_short n (l ∷ ls) h = and_from (nat_le l n) (within n ls) (le-leb l n (omega arith)) (total_short n ls (omega arith))
+total_short n (l ∷ ls) h =
+    let e : total (l ∷ ls) ≡ l + total ls = sum_by-cons (λ x. x) l ls in
+    and_from (nat_le l n) (within n ls) (le-leb l n (omega arith)) (total_short n ls (omega arith))
 
 pages_short : (ls : List ℕ) → pages_total ls ≤ 256 → within 65536 ls ≡ true
 pages_short [] h = refl

@@ -1,5 +1,6 @@
 -- What a region store means: what each operation answers, and what the store holds then. Assumes nothing.
-use Rattle.std.specs.Prelude.{ℕ, ◌+◌, ◌-◌, Bool, true, cond, ◌&&◌, List, [], ◌∷◌, ◌++◌, map, length, take, Ok, Err, Result, nat_le, nat_lt, slice_index, slice_index_or, slice_set}
+use Rattle.std.specs.List.{list_all}
+use Rattle.std.specs.Prelude.{ℕ, ◌+◌, ◌-◌, Bool, cond, List, [], ◌∷◌, ◌++◌, map, length, take, Ok, Err, Result, nat_le, nat_lt, slice_index, slice_index_or, slice_set}
 use Rattle.regions.specs.declared.refusal.Refusal.{Refusal}
 use Rattle.regions.specs.declared.refusal.Refusal.TheVariants.{Denied, NoRegion, NoWord}
 
@@ -23,8 +24,7 @@ lengths rs = map length rs
 
 -- whether no length is above q
 abbrev pub within : ℕ → List ℕ → Bool
-within q [] = true
-within q (l ∷ ls) = nat_le l q && within q ls
+within q ls = list_all (λ l. nat_le l q) ls
 
 -- the lengths with n more at position p
 abbrev pub longer : List ℕ → ℕ → ℕ → List ℕ

@@ -1,5 +1,5 @@
 -- The rules of the arena, the page store and the quota. Assumes nothing.
-use Rattle.std.specs.Prelude.{ℕ, ◌+◌, ◌/◌, min, Bool, cond, ◌&&◌, List, [], ◌∷◌, length, Ok, Err, Result, nat_le, nat_lt}
+use Rattle.std.specs.Prelude.{ℕ, ◌+◌, ◌/◌, min, Bool, cond, ◌&&◌, List, [], ◌∷◌, length, Ok, Err, Result, nat_le, nat_lt, sum}
 use Rattle.regions.specs.declared.refusal.Refusal.{Refusal}
 use Rattle.regions.specs.declared.refusal.Refusal.TheVariants.{NoRegion}
 use Rattle.regions.specs.Model.{Regions, Rule, lengths, region, within}
@@ -7,8 +7,7 @@ use Rattle.regions.specs.Laws.{Lawful}
 
 -- the lengths added up
 abbrev pub total : List ℕ → ℕ
-total [] = 0
-total (l ∷ ls) = l + total ls
+total ls = sum ls
 
 -- a memory beyond 65,536 words counts as 65,536
 abbrev pub capacity : ℕ → ℕ

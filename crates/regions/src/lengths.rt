@@ -6,10 +6,5 @@ ghost use Rattle.regions.specs.Model.{within};
 pub fn none_above(lens: &[usize], most: usize) -> bool
     ensures { result ≡ within most lens.now }
 {
-    for l in lens {
-        if *l > most {
-            return false;
-        }
-    }
-    true
+    lens.iter().all(|l| *l <= most)
 }

@@ -24,14 +24,14 @@ impl<S: RegionStore> Quota<S> {
     pub fn into_store(self) -> S
         ensures { result ≡ self.store }
     {
-        let Quota { store, quota: _ } = self;
-        store
+        self.store
     }
 
     // Whether the quota leaves room for `more` words in the region at `position`.
     fn room(&self, position: usize, more: usize) -> Result<bool, Refusal>
         ensures { result ≡ quota_room self.now.quota (S.RegionStore.regions self.now.store) position more }
     {
+        // One refusal is told apart, and any other goes on as it is.
         match self.store.get(position, self.quota.saturating_sub(more)) {
             Ok(_) => Ok(false),
             Err(Refusal::NoWord) => Ok(more <= self.quota && self.store.within(self.quota)),

@@ -34,16 +34,15 @@ pub trait RegionStore {
     fn within(&self, most: usize) -> bool
         ensures { result ≡ within most (lengths (regions self.now)) }
     {
-        let mut position = 0;
-        loop {
+        // A store does not say how many regions it has: the first refusal but of the word ends the range.
+        for position in 0..usize::MAX {
             match self.get(position, most) {
                 Ok(_) => return false,
-                Err(refusal) => match refusal {
-                    Refusal::NoWord => position += 1,
-                    _ => return true,
-                },
+                Err(Refusal::NoWord) => {}
+                Err(_) => return true,
             }
         }
+        true
     }
 
     // Takes the top region away.

@@ -1,10 +1,11 @@
 // A row: up to `N` items one after the other, with the room for the others behind them.
-ghost use Rattle.std.specs.Prelude.{⊤, ◌≡◌, ◌≤◌, [], ◌∷◌, ◌++◌, length, take, slice_set};
+ghost use Rattle.std.specs.Prelude.{⊤, ◌≡◌, ◌<◌, ◌≤◌, [], ◌∷◌, ◌++◌, length, take, slice_get, slice_set};
 
 use std::alloc::AllocError;
 use std::marker::Model;
 use std::ops::DerefSlice;
 
+// An array and a count, and no `Vec`, which would allocate, nor the kit's `ArrayVec`, which is not `Copy`.
 pub struct Row<T: Copy, const N: usize> {
     cells: [T; N],
     count: usize,
@@ -81,9 +82,18 @@ impl<T: Copy, const N: usize> Row<T, N> {
         self.as_slice().len()
     }
 
+    // The item at a place, if there is one, as a copy.
+    pub fn item(&self, place: usize) -> Option<T>
+        ensures value { result ≡ slice_get self.now.items place }
+        ensures fits { length self.now.items ≤ N }
+    {
+        self.as_slice().get(place).copied()
+    }
+
     // One item more, where there is room.
     pub fn push(&mut self, item: T)
-        ensures { self.new.items ≡ take N (self.old.items ++ item ∷ []) }
+        ensures room { length self.old.items < N → self.new.items ≡ self.old.items ++ item ∷ [] }
+        ensures full { N ≤ length self.old.items → self.new.items ≡ self.old.items }
     {
         if self.count < N {
             self.cells[self.count] = item;
@@ -109,7 +119,8 @@ impl<T: Copy, const N: usize> Row<T, N> {
 
     // Holds the items of a list in place of its own, as many as there is room for.
     pub fn copy_from(&mut self, items: &[T])
-        ensures { self.new.items ≡ take N items.now }
+        ensures first { self.new.items ≡ take N items.now }
+        ensures all { length items.now ≤ N → self.new.items ≡ items.now }
     {
         let fits = items.len().min(N);
         self.cells[..fits].copy_from_slice(&items[..fits]);

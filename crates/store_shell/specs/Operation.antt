@@ -1,11 +1,19 @@
 -- What an operation on a store answers, and what the store holds then. Assumes nothing.
-use Rattle.std.specs.Prelude.{[], ◌∷◌, Ok, Err, Result}
+use Rattle.std.specs.Prelude.{ℕ, List, [], ◌∷◌, Ok, Err, Result, codes}
 use Rattle.regions.specs.declared.refusal.Refusal.{Refusal}
 use Rattle.regions.specs.Model.{Regions, Rule, open_answer, open_after, put_answer, put_after, get_answer, close_answer, close_after, clear_after}
 use Rattle.store_shell.specs.declared.operation.Operation.{Operation}
 use Rattle.store_shell.specs.declared.operation.Operation.TheVariants.{Open, Put, Get, Close, Clear}
 use Rattle.store_shell.specs.declared.operation.Answer.{Answer}
 use Rattle.store_shell.specs.declared.operation.Answer.TheVariants.{Done, Length, Word}
+
+-- an operation by its name
+abbrev pub called : Operation → List ℕ
+called Open = codes "open"
+called (Put p a b) = codes "put"
+called (Get p i) = codes "get"
+called Close = codes "close"
+called Clear = codes "clear"
 
 -- a refusal as it is, and any other answer told by f
 abbrev pub told : {A : Type 0} → (A → Answer) → Result A Refusal → Result Answer Refusal

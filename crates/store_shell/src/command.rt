@@ -1,10 +1,12 @@
 // A line of text as a command.
 use crate::operation::Operation;
 use piles::build::Kind;
-use std::alloc::Global;
+use std::alloc::{AllocError, AllocFailed, Global};
+use std::fmt;
+use std::str::FromStr;
 
-// What is wrong with a line.
-#[derive(Clone, Copy)]
+// Why a line is not done.
+#[derive(Clone, Copy, PartialEq, Eq, Debug)]
 pub enum Fault {
     NoCommand,
     NotANumber,
@@ -13,11 +15,12 @@ pub enum Fault {
     NoKind,
     NoQuota,
     NoMemory,
+    NoStore,
 }
 
-impl Fault {
-    pub(crate) fn text(self) -> &'static str {
-        match self {
+impl fmt::Display for Fault {
+    fn fmt<W: fmt::Write>(&self, f: &mut fmt::Formatter<W>) -> fmt::Result {
+        f.write_str(match self {
             Fault::NoCommand => "the commands are store, open, put, get, close and clear",
             Fault::NotANumber => "this number is not an unsigned decimal, or too large",
             Fault::TooFew => "a number is missing",
@@ -25,10 +28,24 @@ impl Fault {
             Fault::NoKind => "a store is `arena` or `pages`",
             Fault::NoQuota => "a size is followed by `quota` and a number, any number of times",
             Fault::NoMemory => "there is no memory for this",
-        }
+            Fault::NoStore => "there is no store yet",
+        })
     }
 }
 
+impl From<AllocError> for Fault {
+    fn from(_: AllocError) -> Fault {
+        Fault::NoMemory
+    }
+}
+
+impl<T: Drop> From<AllocFailed<T>> for Fault {
+    fn from(_: AllocFailed<T>) -> Fault {
+        Fault::NoMemory
+    }
+}
+
+#[derive(Drop)]
 pub enum Command {
     // A new store: its kind, its size, and its quotas, the innermost first.
     Make(Kind, usize, Vec<usize>),
@@ -36,29 +53,20 @@ pub enum Command {
 }
 
 // A word as a number.
-fn number(word: Option<&&str>) -> Result<usize, Fault> {
-    match word {
-        Some(digits) => match digits.parse::<usize>() {
-            Ok(n) => Ok(n),
-            Err(_) => Err(Fault::NotANumber),
-        },
-        None => Err(Fault::TooFew),
-    }
-}
-
-// A word as a word of a store.
-fn word(text: Option<&&str>) -> Result<u32, Fault> {
-    match u32::try_from(number(text)?) {
-        Ok(n) => Ok(n),
-        Err(_) => Err(Fault::NotANumber),
-    }
+fn number<N: FromStr>(word: Option<&&str>) -> Result<N, Fault>
+where
+    N::Err: Drop,
+{
+    word.ok_or(Fault::TooFew)?
+        .parse::<N>()
+        .map_err(|_| Fault::NotANumber)
 }
 
 // What to put, by the words behind `put`.
 fn put(words: &[&str]) -> Result<Operation, Fault> {
     let position = number(words.get(1))?;
-    let first = word(words.get(2))?;
-    Ok(Operation::Put(position, first, word(words.get(3))?))
+    let first = number(words.get(2))?;
+    Ok(Operation::Put(position, first, number(words.get(3))?))
 }
 
 // What to get, by the words behind `get`.
@@ -90,36 +98,31 @@ fn quotas(heap: Global, words: &[&str]) -> Result<Vec<usize>, Fault> {
         if pair.first() != Some(&"quota") {
             return Err(Fault::NoQuota);
         }
-        if found.push(number(pair.get(1))?).is_err() {
-            return Err(Fault::NoMemory);
-        }
+        found.push(number(pair.get(1))?)?;
     }
     Ok(found)
 }
 
-// The store that a line's words say.
+// The store that the words behind `store` say.
 fn make(heap: Global, words: &[&str]) -> Result<Command, Fault> {
-    if words.len() < 3 {
+    let [kind, size, behind @ ..] = words else {
         return Err(Fault::TooFew);
-    }
-    let kind = match words[1] {
+    };
+    // Not a `FromStr` of the kind: the words are this language's, and so is the fault.
+    let kind = match *kind {
         "arena" => Kind::Words,
         "pages" => Kind::Pages,
         _ => return Err(Fault::NoKind),
     };
-    let size = number(words.get(2))?;
-    Ok(Command::Make(kind, size, quotas(heap, &words[3..])?))
+    let size = number(Some(size))?;
+    Ok(Command::Make(kind, size, quotas(heap, behind)?))
 }
 
 // The command that a line says.
 pub(crate) fn parse(heap: Global, line: &str) -> Result<Command, Fault> {
-    let words: Vec<&str> = match line.split_ascii_whitespace().collect(heap) {
-        Ok(words) => words,
-        Err(_) => return Err(Fault::NoMemory),
-    };
-    if words.first() == Some(&"store") {
-        make(heap, &words)
-    } else {
-        Ok(Command::Perform(operation(&words)?))
+    let words: Vec<&str> = line.split_ascii_whitespace().collect(heap)?;
+    match words.as_slice() {
+        ["store", behind @ ..] => make(heap, behind),
+        words => Ok(Command::Perform(operation(words)?)),
     }
 }

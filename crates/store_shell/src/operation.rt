@@ -1,14 +1,14 @@
 // One operation on a store, as a value, and its answer.
-ghost use Rattle.std.specs.Prelude.{◌≡◌};
+ghost use Rattle.std.specs.Prelude.{◌≡◌, Some};
 ghost use Rattle.piles.specs.Pile.{pile_regions, pile_rule};
-ghost use Rattle.store_shell.specs.Operation.{answered, afterwards};
+ghost use Rattle.store_shell.specs.Operation.{answered, afterwards, called};
 
-use piles::ground::Ground;
 use piles::pile::Pile;
 use regions::refusal::Refusal;
 use regions::store::RegionStore;
+use std::fmt;
 
-#[derive(Clone, Copy)]
+#[derive(Clone, Copy, PartialEq, Eq, Debug)]
 pub enum Operation {
     Open,
     // Position, and two words.
@@ -19,12 +19,27 @@ pub enum Operation {
     Clear,
 }
 
-#[derive(Clone, Copy)]
+#[derive(Clone, Copy, PartialEq, Eq, Debug)]
 pub enum Answer {
     Done,
     // How long the region was.
     Length(usize),
     Word(u32),
+}
+
+// An operation by its name, as it stands in a line.
+impl fmt::Display for Operation {
+    ghost output = { λ operation. Some (called operation) };
+
+    fn fmt<W: fmt::Write>(&self, f: &mut fmt::Formatter<W>) -> fmt::Result {
+        f.write_str(match self {
+            Operation::Open => "open",
+            Operation::Put(..) => "put",
+            Operation::Get(..) => "get",
+            Operation::Close => "close",
+            Operation::Clear => "clear",
+        })
+    }
 }
 
 // Performs an operation on any store.
@@ -34,22 +49,12 @@ pub fn perform<S: RegionStore>(store: &mut S, operation: Operation) -> Result<An
     ensures rule { S.grants store.new ≡ S.grants store.old }
 {
     match operation {
-        Operation::Open => {
-            store.open()?;
-            Ok(Answer::Done)
-        }
-        Operation::Put(position, first, second) => {
-            let length = store.put(position, first, second)?;
-            Ok(Answer::Length(length))
-        }
-        Operation::Get(position, place) => {
-            let word = store.get(position, place)?;
-            Ok(Answer::Word(word))
-        }
-        Operation::Close => {
-            store.close()?;
-            Ok(Answer::Done)
-        }
+        Operation::Open => store.open().map(|_| Answer::Done),
+        Operation::Put(position, first, second) => store
+            .put(position, first, second)
+            .map(Answer::Length),
+        Operation::Get(position, place) => store.get(position, place).map(Answer::Word),
+        Operation::Close => store.close().map(|_| Answer::Done),
         Operation::Clear => {
             store.clear();
             Ok(Answer::Done)
@@ -57,17 +62,11 @@ pub fn perform<S: RegionStore>(store: &mut S, operation: Operation) -> Result<An
     }
 }
 
-// Performs an operation on a pile, by the code for any store: over an arena, over pages, over a quota and over a
-// quota over a quota.
+// Performs an operation on a pile, by the code for any store.
 pub fn perform_on(pile: &mut Pile, operation: Operation) -> Result<Answer, Refusal>
     ensures answer { result ≡ answered (pile_rule pile.old) (pile_regions pile.old) operation }
     ensures after { pile_regions pile.new ≡ afterwards (pile_rule pile.old) (pile_regions pile.old) operation }
     ensures rule { pile_rule pile.new ≡ pile_rule pile.old }
 {
-    match pile {
-        Pile::Bare(Ground::Stretch(arena)) => perform(arena, operation),
-        Pile::Bare(Ground::Paged(pages)) => perform(pages, operation),
-        Pile::Once(quota) => perform(quota, operation),
-        Pile::Twice(quota) => perform(quota, operation),
-    }
+    perform(pile, operation)
 }

@@ -4,64 +4,41 @@ use crate::operation::{Answer, Operation, perform_on};
 use piles::build::build;
 use piles::pile::Pile;
 use regions::refusal::Refusal;
-use std::io;
+use std::alloc::Global;
 use std::io::{BufRead, BufReader};
+use std::{fmt, io};
 
-// The name of an operation, as it stands in a line.
-fn name(operation: Operation) -> &'static str {
-    match operation {
-        Operation::Open => "open",
-        Operation::Put(_, _, _) => "put",
-        Operation::Get(_, _) => "get",
-        Operation::Close => "close",
-        Operation::Clear => "clear",
+// What was done for a line; an `Option` would call the making of a store none.
+#[derive(Clone, Copy, PartialEq, Eq, Debug)]
+enum Reply {
+    Made,
+    Performed(Operation, Result<Answer, Refusal>),
+}
+
+impl fmt::Display for Reply {
+    fn fmt<W: fmt::Write>(&self, f: &mut fmt::Formatter<W>) -> fmt::Result {
+        match self {
+            Reply::Made => write!(f, "store ok"),
+            Reply::Performed(operation, answer) => match answer {
+                Ok(Answer::Done) => write!(f, "{operation} ok"),
+                Ok(Answer::Length(length)) => write!(f, "{operation} ok {length}"),
+                Ok(Answer::Word(word)) => write!(f, "{operation} ok {word}"),
+                Err(refusal) => write!(f, "{operation} refused {}", refusal.number()),
+            },
+        }
     }
 }
 
-// Prints what an operation answered.
-fn tell(rt: &HostRuntime, operation: Operation, answer: Result<Answer, Refusal>) -> io::Result<()> {
-    let said = name(operation);
-    match answer {
-        Ok(Answer::Done) => println!(rt; "{said} ok"),
-        Ok(Answer::Length(length)) => println!(rt; "{said} ok {length}"),
-        Ok(Answer::Word(word)) => println!(rt; "{said} ok {word}"),
-        Err(refusal) => println!(rt; "{said} refused {}", refusal.number()),
-    }
-}
-
-// Answers one line, and gives back the store that is there then.
-fn answer(
-    rt: &HostRuntime,
-    store: Option<Pile>,
-    line: u64,
-    text: &str,
-) -> io::Result<Option<Pile>> {
-    match parse(rt.alloc(), text) {
-        Ok(Command::Make(kind, size, quotas)) => match build(rt.alloc(), kind, size, &quotas) {
-            Ok(pile) => {
-                println!(rt; "store ok")?;
-                Ok(Some(pile))
-            }
-            Err(_) => {
-                println!(rt; "line {line}: {}", Fault::NoMemory.text())?;
-                Ok(store)
-            }
-        },
-        Ok(Command::Perform(operation)) => match store {
-            Some(pile) => {
-                let mut pile = pile;
-                let answer = perform_on(&mut pile, operation);
-                tell(rt, operation, answer)?;
-                Ok(Some(pile))
-            }
-            None => {
-                println!(rt; "line {line}: there is no store yet")?;
-                Ok(None)
-            }
-        },
-        Err(fault) => {
-            println!(rt; "line {line}: {}", fault.text())?;
-            Ok(store)
+// Does what a line says to the store that is there; a fault leaves it as it was.
+fn perform_line(heap: Global, store: &mut Option<Pile>, text: &str) -> Result<Reply, Fault> {
+    match parse(heap, text)? {
+        Command::Make(kind, size, quotas) => {
+            *store = Some(build(heap, kind, size, &quotas)?);
+            Ok(Reply::Made)
+        }
+        Command::Perform(operation) => {
+            let pile = store.as_mut().ok_or(Fault::NoStore)?;
+            Ok(Reply::Performed(operation, perform_on(pile, operation)))
         }
     }
 }
@@ -69,10 +46,12 @@ fn answer(
 // Answers each line of standard input.
 pub fn serve(rt: &HostRuntime) -> io::Result<()> {
     let mut store = None;
-    let mut line = 0u64;
-    for text in BufReader::new(rt.alloc(), rt.stdin())?.lines(rt.alloc()) {
-        line = line.saturating_add(1);
-        store = answer(rt, store, line, &text?)?;
+    let lines = BufReader::new(rt.alloc(), rt.stdin())?.lines(rt.alloc());
+    for (before, text) in lines.enumerate() {
+        match perform_line(rt.alloc(), &mut store, &text?) {
+            Ok(reply) => println!(rt; "{reply}")?,
+            Err(fault) => println!(rt; "line {}: {fault}", before.saturating_add(1))?,
+        }
     }
     Ok(())
 }

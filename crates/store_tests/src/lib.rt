@@ -10,18 +10,13 @@ mod tests {
     use regions::store::RegionStore;
     use std::test::Fail;
 
-    // An answer as a number: a length, or the refusal's.
-    fn told(answer: Result<usize, Refusal>) -> u32 {
+    // An answer as a number: a length or a word, or the refusal's.
+    fn told<N: TryInto<u32>>(answer: Result<N, Refusal>) -> u32
+    where
+        N::Error: Drop,
+    {
         match answer {
-            Ok(length) => u32::try_from(length).unwrap_or(u32::MAX),
-            Err(refusal) => refusal.number(),
-        }
-    }
-
-    // The word there, or the refusal's number.
-    fn word<S: RegionStore>(store: &S, position: usize, place: usize) -> u32 {
-        match store.get(position, place) {
-            Ok(word) => word,
+            Ok(number) => number.try_into().unwrap_or(u32::MAX),
             Err(refusal) => refusal.number(),
         }
     }
@@ -60,7 +55,11 @@ mod tests {
         let _ = store.open();
         let _ = store.put(1, 7, 8);
         let _ = store.put(0, 5, 6);
-        (word(store, 1, 0), word(store, 1, 1), word(store, 0, 1))
+        (
+            told(store.get(1, 0)),
+            told(store.get(1, 1)),
+            told(store.get(0, 1)),
+        )
     }
 
     #[test]
@@ -80,19 +79,13 @@ mod tests {
         assert!(rt; arena.put(0, 1, 2).is_ok());
         let mut late = Quota::over(arena, 1);
         assert!(rt; late.open().is_err());
-        assert_eq!(rt; word(&late, 0, 1), 2);
+        assert_eq!(rt; told(late.get(0, 1)), 2);
         Ok(())
     }
 
     // How many regions a store opens.
-    fn opened<S: RegionStore>(store: &mut S) -> u32 {
-        let mut count = 0u32;
-        for _ in 0..100 {
-            if store.open().is_ok() {
-                count = count.saturating_add(1);
-            }
-        }
-        count
+    fn opened<S: RegionStore>(store: &mut S) -> usize {
+        (0..100).filter(|_| store.open().is_ok()).count()
     }
 
     #[test]
@@ -111,9 +104,9 @@ mod tests {
                 assert!(rt; pages.put(0, i, i).is_ok());
             }
             assert_eq!(rt; told(pages.put(0, 1, 1)), 25);
-            assert_eq!(rt; word(&pages, 0, 33), 16);
+            assert_eq!(rt; told(pages.get(0, 33)), 16);
             assert!(rt; pages.close().is_ok());
         }
-        assert_eq!(rt; word(&pages, 0, 0), 26);
+        assert_eq!(rt; told(pages.get(0, 0)), 26);
     }
 }

@@ -1,22 +1,22 @@
-use Rattle.std.proofs.Common.{◌≡◌, ◌+◌, ◌<◌, ◌≤◌, get_or, set, replicate, sym, refl, ap, ◌∙◌, ⊎_elim, arith}
-use Rattle.std.proofs.lemmas.List.{length-set, get_or-set_same, get_or-set_other}
-use Rattle.std.proofs.lemmas.Bool.{cases_lt}
-use Rattle.pages.proofs.Starts.{free_once, zeros}
-use Rattle.pages.proofs.Ends.{empty-ends}
+use Rattle.std.proofs.Common.{◌≡◌, ℕ, ◌+◌, ◌<◌, ◌≤◌, length, get_or, replicate, ap, ◌∙◌, arith, rules}
+use Rattle.std.proofs.lemmas.List.Elements.{All-nil, All-from_get_or}
+use Rattle.pages.specs.Chain.{links, IsEnded}
+use Rattle.pages.specs.declared.chain.Page.{Page}
+use Rattle.pages.proofs.Lists.{get_or-map_default}
+use Rattle.pages.proofs.States.{blank}
+use Rattle.pages.proofs.Starts.{free_once}
 use Rattle.pages.proofs.pages.Pages.new.Goals as goal
-
-pub loop-i-preserved : goal.loop-i-preserved
-loop-i-preserved c =
-    let next = c.loop-i.next in
-    let i = c.loop-i.i in (
-      length-set next i (i + 1) ∙ c.loop-i.invariant.0,
-      (λ k h.
-          ⊎_elim
-          (λ (l : k < i). get_or-set_other next i k (i + 1) 0 (λ e. omega arith) ∙ c.loop-i.invariant.1 k l)
-          (λ (g : i ≤ k). let e : k ≡ i = omega arith in ap (λ j. get_or (set next i (i + 1)) j 0) e ∙ get_or-set_same next i (i + 1) 0 (omega (arith, c.loop-i.invariant.0)) ∙ ap (λ j. j + 1) (sym e))
-          (cases_lt k i)),
-    )
 
 pub invariant_of-result : goal.invariant_of-result
 invariant_of-result c =
-    let le : c.min-most.result ≤ 256 = omega (arith, c.min-most.ensures) in record { sized = (refl, c.loop-i.invariant.0, refl, refl); few = (omega arith, le); rest = (λ i _. zeros 64 i); sum = omega arith; once = (λ z. omega (arith, free_once c.loop-i.next (λ k h. c.loop-i.invariant.1 k (omega arith)) z c.min-most.result le)); ends = (refl, empty-ends c.loop-i.next (replicate 64 0) 64) }
+    let ps = c.from_fn.result in
+    let made : (k : ℕ) → k < 256 → get_or ps k blank ≡ record { words = replicate 16 0; next = k + 1 } = λ k h. let e = (c.from_fn.ensures.items.at k blank h).2 in search rules in
+    let le : c.min-most.result ≤ 256 = omega (arith, c.min-most.ensures) in
+    record {
+      sized = c.from_fn.ensures.items.long;
+      wide = All-from_get_or (λ (q : Page). length q.words ≡ 16) ps blank (λ k h. ap (λ (q : Page). length q.words) (made k (omega (arith, c.from_fn.ensures.items.long))));
+      few = (rw c.new.ensures (omega arith), le);
+      sum = rw c.new.ensures (omega arith);
+      once = (λ q. rw c.new.ensures (omega (arith, free_once (links ps) (λ k h. get_or-map_default (λ (t : Page). t.next) ps k blank ∙ ap (λ (t : Page). t.next) (made k h)) q c.min-most.result le)));
+      ends = rw c.new.ensures (All-nil (IsEnded (links ps)));
+    }

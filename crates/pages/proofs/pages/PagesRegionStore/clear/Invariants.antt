@@ -1,8 +1,5 @@
-use Rattle.std.proofs.Common.{◌≡◌}
+use Rattle.std.proofs.Common.{◌≡◌, ◌+◌, length}
 use Rattle.pages.proofs.pages.PagesRegionStore.clear.Given as goal
 
-abbrev pub invariant-loop-self : goal.invariant-loop-self
-invariant-loop-self l = l.self.most ≡ l.initial.self.most
-
-abbrev pub decreases-loop-self : goal.decreases-loop-self
-decreases-loop-self l = l.self.count
+abbrev pub invariant-loop-region : goal.invariant-loop-region
+invariant-loop-region l = (length l.self.stack.items + l._region ≡ length l.initial.self.stack.items) × (l.self.most ≡ l.initial.self.most)

@@ -1,25 +1,29 @@
-use Rattle.std.proofs.Common.{◌+◌, ◌*◌, ◌%◌, get_or, Ok, sym, ap, ◌∙◌, arith}
-use Rattle.regions.proofs.Answered.{get_none, get_past, get_word}
-use Rattle.pages.proofs.States.{regions-of, count_is, length_is, word_is}
+use Rattle.std.proofs.Common.{◌≡◌, ◌-◌, ◌/◌, ◌%◌, ◌<◌, [], length, get_or, Ok, sym, ap, ◌∙◌, arith, rules}
+use Rattle.regions.proofs.Answered.{get_word}
+use Rattle.pages.specs.Chain.{texts}
+use Rattle.pages.specs.Held.{holds, way}
+use Rattle.pages.specs.declared.chain.Page.{Page}
+use Rattle.pages.proofs.Lists.{get_or-map_default}
+use Rattle.pages.proofs.States.{at, length-way, count_is, length_is, word_is}
 use Rattle.pages.proofs.pages.PagesRegionStore.get.Goals as goal
-
-pub returns-then-position-self : goal.returns-then-position-self
-returns-then-position-self c =
-    let x = c.args.self.now in
-    sym (get_none (regions-of x) c.args.position c.args.place (omega (arith, count_is x)))
-
-pub returns-then-place-length : goal.returns-then-place-length
-returns-then-place-length c =
-    let x = c.args.self.now in
-    let p = c.args.position in
-    sym (get_past (regions-of x) p c.args.place (omega (arith, count_is x)) (omega (arith, length_is x p c.if-position-self.false)))
 
 pub returns : goal.returns
 returns c =
     let x = c.args.self.now in
     let p = c.args.position in
     let i = c.args.place in
-    let h = c.if-position-self.false in
-    ap (λ q. Ok (get_or x.words (16 * q + i % 16) 0)) c.page_at-page.ensures.is
-    ∙ ap Ok (sym (word_is x p h i c.if-place-length.false))
-    ∙ sym (get_word (regions-of x) p i (omega (arith, count_is x)) (omega (arith, length_is x p h)))
+    let here : p < length x.stack.items = search rules in
+    let len : c.in_ok-length.field-0.now.length ≡ (at x p).length = search rules in
+    let past : i < (at x p).length = omega (arith, len, c.if-place-length.false) in
+    let q = c.page_at-page.result in
+    ap (λ ws. Ok (get_or ws (i % 16) 0)) (sym (get_or-map_default (λ (t : Page). t.words) x.pages q (record { words = []; next = 0 })))
+    ∙ ap (λ r. Ok (get_or (get_or (texts x.pages) r []) (i % 16) 0)) (c.page_at-page.ensures.is ∙ ap (λ l. get_or (way x p) ((l - 1) / 16 - i / 16) 0) len)
+    ∙ ap Ok (sym (word_is x p i past))
+    ∙ sym (get_word (holds x) p i (omega (arith, count_is x, here)) (omega (arith, length_is x p, past)))
+
+pub page_at-page-requires : goal.page_at-page-requires
+page_at-page-requires c =
+    let x = c.args.self.now in
+    let p = c.args.position in
+    let len : c.in_ok-length.field-0.now.length ≡ (at x p).length = search rules in
+    omega (arith, len, c.if-place-length.false, length-way x p)

@@ -1,29 +1,25 @@
-use Rattle.std.proofs.Common.{◌+◌, ◌<◌, [], ◌∷◌, ◌++◌, sym, refl, ap, ◌∙◌, arith}
-use Rattle.std.proofs.lemmas.List.{take_more}
-use Rattle.std.proofs.lemmas.Bool.{le-leb, lt-leb}
+use Rattle.std.proofs.Common.{◌≡◌, ◌+◌, ◌<◌, [], ◌∷◌, ◌++◌, length, sym, ap, ◌∙◌, arith, rules}
+use Rattle.std.proofs.lemmas.Bool.{le-leb}
 use Rattle.regions.specs.Rules.{pages_rule}
-use Rattle.regions.proofs.Answered.{open_denied, open_granted}
-use Rattle.pages.proofs.States.{all_of, regions-of, all_length, may_open_is, next_is}
+use Rattle.regions.proofs.Answered.{open_granted}
+use Rattle.pages.specs.Chain.{none}
+use Rattle.pages.specs.Held.{holds}
+use Rattle.pages.proofs.Rules.{may_open_is}
+use Rattle.pages.proofs.Opens.{kept_open, held_open}
 use Rattle.pages.proofs.pages.PagesRegionStore.open.Goals as goal
-
-pub returns-then-self-eq-MOST : goal.returns-then-self-eq-MOST
-returns-then-self-eq-MOST c =
-    let x = c.args.self.now in
-    let t = open_denied (pages_rule x.most) (regions-of x) (may_open_is x ∙ lt-leb (x.count + 1) 64 (omega arith)) in
-    record { answer = sym t.0; after = sym t.1; rule = refl }
 
 pub invariant_of-self : goal.invariant_of-self
 invariant_of-self c =
     let x = c.args.self.now in
-    record { sized = x.sized; few = (omega (arith, x.few.0), x.few.1); rest = (λ i g. x.rest i (omega arith)); sum = x.sum; once = x.once; ends = x.ends }
+    let few : length x.stack.items < 64 = omega (arith, x.few.0, c.len.ensures.value, c.if-len-eq-MOST.false) in
+    let empty : c.default.result ≡ none = search rules in
+    let k = kept_open x few c.push.new.self.items (c.push.ensures.room few ∙ ap (λ d. x.stack.items ++ d ∷ []) empty) in
+    record { sized = k.sized; wide = k.wide; few = k.few; sum = k.sum; once = k.once; ends = k.ends }
 
 pub returns : goal.returns
 returns c =
     let x = c.args.self.now in
-    let few : x.count < 64 = omega (arith, x.few.0) in
-    let t = open_granted (pages_rule x.most) (regions-of x) (may_open_is x ∙ le-leb (x.count + 1) 64 (omega arith)) in
-    record {
-      answer = sym t.0;
-      after = take_more (all_of x) x.count [] (omega (arith, all_length x)) ∙ ap (λ r. regions-of x ++ r ∷ []) (next_is x few) ∙ sym t.1;
-      rule = refl;
-    }
+    let few : length x.stack.items < 64 = omega (arith, x.few.0, c.len.ensures.value, c.if-len-eq-MOST.false) in
+    let empty : c.default.result ≡ none = search rules in
+    let t = open_granted (pages_rule x.most) (holds x) (may_open_is x ∙ le-leb (length x.stack.items + 1) 64 (omega (arith, few))) in
+    record { answer = sym t.0; after = held_open x few c.push.new.self.items (c.push.ensures.room few ∙ ap (λ d. x.stack.items ++ d ∷ []) empty) ∙ sym t.1; rule = search rules }

@@ -1,45 +1,60 @@
-use Rattle.std.proofs.Common.{◌+◌, true, false, [], ◌∷◌, ◌++◌, get_or, take, set, Ok, sym, refl, ap, ◌∙◌, arith}
+use Rattle.std.proofs.Common.{◌≡◌, ◌+◌, ◌<◌, true, false, [], ◌∷◌, length, Ok, sym, ap, ◌∙◌, arith, rules}
 use Rattle.std.proofs.lemmas.Bool.{le-leb, lt-leb}
 use Rattle.regions.specs.Rules.{pages_of, pages_rule}
-use Rattle.regions.proofs.Answered.{put_none, put_denied, put_granted}
-use Rattle.regions.proofs.Tables.{take-set_in}
-use Rattle.pages.proofs.States.{all_of, regions-of, count_is, length_is, region_is, fits, may_put_is}
+use Rattle.regions.proofs.Answered.{put_denied, put_granted}
+use Rattle.pages.specs.Held.{holds}
+use Rattle.pages.proofs.States.{at, count_is, length_is, fits}
+use Rattle.pages.proofs.Rules.{may_put_is, length_after, left_after, put_two}
 use Rattle.pages.proofs.pages.PagesRegionStore.put.Goals as goal
 
-pub returns-then-position-self : goal.returns-then-position-self
-returns-then-position-self c =
-    let x = c.args.self.now in
-    let t = put_none (pages_rule x.most) (regions-of x) c.args.position (c.args.first ∷ c.args.second ∷ []) (omega (arith, count_is x)) in
-    record { answer = sym t.0; after = sym t.1; rule = refl }
+pub overflow_add-length : goal.overflow_add-length
+overflow_add-length c =
+    let len : c.in_ok-length.field-0.now.length ≡ (at c.args.self.now c.args.position).length = search rules in
+    omega (arith, len, fits c.args.self.now c.args.position)
 
-pub overflow_mul-self : goal.overflow_mul-self
-overflow_mul-self c = let x = c.args.self.now in omega (arith, fits x c.args.position c.if-position-self.false, c.pages_for.ensures)
+pub overflow_add-pages_for : goal.overflow_add-pages_for
+overflow_add-pages_for c =
+    let len : c.in_ok-length.field-0.now.length ≡ (at c.args.self.now c.args.position).length = search rules in
+    omega (arith, len, fits c.args.self.now c.args.position, c.pages_for-2.ensures)
 
-pub returns-then-self-pages_for-lt2 : goal.returns-then-self-pages_for-lt2
-returns-then-self-pages_for-lt2 c =
+pub returns-then-pages_for-self : goal.returns-then-pages_for-self
+returns-then-pages_for-self c =
     let x = c.args.self.now in
     let p = c.args.position in
     let new = c.args.first ∷ c.args.second ∷ [] in
-    let h = c.if-position-self.false in
-    let no = may_put_is x p h new false (lt-leb (pages_of (get_or x.lengths p 0 + 2)) (pages_of (get_or x.lengths p 0) + x.left) (omega (arith, c.pages_for.ensures, c.if-self-pages_for-lt2.true))) in
-    let t = put_denied (pages_rule x.most) (regions-of x) p new (omega (arith, count_is x)) no in
-    record { answer = sym t.0; after = sym t.1; rule = refl }
+    let here : p < length x.stack.items = search rules in
+    let len : c.in_ok-length.field-0.now.length ≡ (at x p).length = search rules in
+    let no = may_put_is x p here new false (lt-leb (pages_of ((at x p).length + 2)) (pages_of (at x p).length + x.left) (omega (arith, len, c.pages_for.ensures, c.pages_for-2.ensures, c.if-pages_for-self.true))) in
+    let t = put_denied (pages_rule x.most) (holds x) p new (omega (arith, count_is x, here)) no in
+    record { answer = sym t.0; after = sym t.1; rule = search rules }
+
+pub push-requires-clause-room : goal.push-requires-clause-room
+push-requires-clause-room c =
+    let x = c.args.self.now in
+    let p = c.args.position in
+    let len : c.in_ok-length.field-0.now.length ≡ (at x p).length = search rules in
+    omega (arith, len, length_is x p, c.pages_for.ensures, c.pages_for-2.ensures, c.if-pages_for-self.false)
+
+pub push-requires-2-clause-room : goal.push-requires-2-clause-room
+push-requires-2-clause-room c =
+    let x = c.args.self.now in
+    let y = c.push.new.self in
+    let p = c.args.position in
+    let here : p < length x.stack.items = search rules in
+    let len : c.in_ok-length.field-0.now.length ≡ (at x p).length = search rules in
+    omega (arith, length_after x p here y c.args.first c.push.ensures.held c.push.ensures.most, len, left_after x p here y c.args.first c.push.ensures.held c.push.ensures.most, c.pages_for.ensures, c.pages_for-2.ensures, c.if-pages_for-self.false)
 
 pub returns : goal.returns
 returns c =
     let x = c.args.self.now in
     let p = c.args.position in
     let new = c.args.first ∷ c.args.second ∷ [] in
-    let h = c.if-position-self.false in
-    let yes = may_put_is x p h new true (le-leb (pages_of (get_or x.lengths p 0 + 2)) (pages_of (get_or x.lengths p 0) + x.left) (omega (arith, c.pages_for.ensures, c.if-self-pages_for-lt2.false))) in
-    let t = put_granted (pages_rule x.most) (regions-of x) p new (omega (arith, count_is x)) yes in
+    let here : p < length x.stack.items = search rules in
+    let len : c.in_ok-length.field-0.now.length ≡ (at x p).length = search rules in
+    let yes = may_put_is x p here new true (le-leb (pages_of ((at x p).length + 2)) (pages_of (at x p).length + x.left) (omega (arith, len, c.pages_for.ensures, c.pages_for-2.ensures, c.if-pages_for-self.false))) in
+    let t = put_granted (pages_rule x.most) (holds x) p new (omega (arith, count_is x, here)) yes in
     record {
-      answer = ap Ok (sym (length_is x p h)) ∙ sym t.0;
-      after =
-          ap (λ k. take k (all_of c.append.new.self)) c.append.ensures.count
-          ∙ ap (take x.count) c.append.ensures.held
-          ∙ take-set_in x.count (all_of x) p (get_or (all_of x) p [] ++ new)
-          ∙ ap (λ r. set (regions-of x) p (r ++ new)) (sym (region_is x p h))
-          ∙ sym t.1;
-      rule = ap pages_rule c.append.ensures.most;
+      answer = ap Ok (len ∙ sym (length_is x p)) ∙ sym t.0;
+      after = put_two (holds x) (holds c.push.new.self) (holds c.push-2.new.self) p c.args.first c.args.second (omega (arith, count_is x, here)) c.push.ensures.held c.push-2.ensures.held ∙ sym t.1;
+      rule = search rules;
     }

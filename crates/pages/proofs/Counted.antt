@@ -1,4 +1,4 @@
--- A page store's regions can be counted. Assumes nothing.
+-- A list of at most 64 regions can be counted.
 use Rattle.std.specs.Prelude.{ℕ, ◌≤◌, take}
 use Rattle.std.proofs.Common.{arith}
 use Rattle.std.proofs.lemmas.List.{length-take}
