@@ -1,6 +1,4 @@
-pub mod Steps
-pub mod Rows
-pub mod Keeps
+pub mod Found
 pub mod Sequences
 pub mod Parts
 pub mod Lengths

@@ -62,10 +62,6 @@ pub handed-told : (rs : List Ident) (after : List Item) → row handed after ≡
 handed-told [] after h = h
 handed-told (r ∷ rs) after h = ap (λ l. r.name ∷ l) (handed-told rs after h)
 
-pub names-length : (rs : List Ident) → length (names rs) ≡ length rs
-names-length [] = refl
-names-length (r ∷ rs) = ap suc (names-length rs)
-
 pub behind-handed : (rs : List Ident) (after : List Item) → drop (length rs) (items_each items_handed rs after) ≡ after
 behind-handed [] after = refl
 behind-handed (r ∷ rs) after = behind-handed rs after

@@ -1,5 +1,6 @@
 -- Whole scripts: the walk over the items of a script gives the answer of checking.
 use Rattle.std.proofs.Common.{◌≡◌, ℕ, zero, suc, ◌<◌, ◌≤◌, Bool, true, false, not, ◌&&◌, eqb, ltb, List, [], ◌∷◌, ◌++◌, length, is_some, Some, None, Ok, Err, codes, Option, Result, sym, refl, ap, ◌∙◌, append_assoc, append-nil, arith}
+use Rattle.std.proofs.lemmas.List.{length-map}
 use Rattle.lexing.specs.Tokens.{same_bytes}
 use Rattle.language.specs.Verdict.{Refused}
 use Rattle.language.specs.Syntax.{Ident, Ty, Atom, var, num, Right, atom, oper, nil, cons, call, test, region, split, Block, last, bind, print, Param, Fun, Script}
@@ -9,7 +10,7 @@ use Rattle.language.specs.Checking.{◌>>=◌, ◌>>◌, ask, last_place, type_b
 use Rattle.draft.specs.Items.{Item, an_outcome, case_names, items_type, items_atom, items_each, items_handed, items_header_region, items_param, items_right, items_block, items_of}
 use Rattle.scope.specs.Words.{type_at}
 use Rattle.checking.specs.Walk.{Functions, walk_header, behind_header, next_function, new_function, walk_headers, parameters, result_type, one_int_items, main_items, walk_main, walk_block, walk_body, walk_bodies, walk_script}
-use Rattle.checking.proofs.Parts.{type-at_told, names-length, header, behind-regions, header_declared, header_parameters, header_result, typed-items, needing}
+use Rattle.checking.proofs.Parts.{type-at_told, header, behind-regions, header_declared, header_parameters, header_result, typed-items, needing}
 use Rattle.checking.proofs.Lengths.{longer-type, longer_block}
 use Rattle.checking.proofs.Telling.{Both, Knows, block_told}
 use Rattle.checking.proofs.Headings.{header_part, headed, header_told}
@@ -163,7 +164,7 @@ one-int_told (q ∷ (r ∷ qs)) after = refl
 main-told : (f : Fun) (rest : List Item) → main_items (header f rest) ≡ main_like f
 main-told f rest =
     ap (λ l. eqb (length l) 0 && (one_int_items (parameters (header f rest)) && same_type (result_type (header f rest)) int)) (header_declared f rest)
-    ∙ ap (λ k. eqb k 0 && (one_int_items (parameters (header f rest)) && same_type (result_type (header f rest)) int)) (names-length f.regions)
+    ∙ ap (λ k. eqb k 0 && (one_int_items (parameters (header f rest)) && same_type (result_type (header f rest)) int)) (length-map f.regions (λ (r : Ident). r.name))
     ∙ ap (λ l. eqb (length f.regions) 0 && (one_int_items l && same_type (result_type (header f rest)) int)) (header_parameters f rest)
     ∙ ap (λ v. eqb (length f.regions) 0 && (v && same_type (result_type (header f rest)) int)) (one-int_told f.params _)
     ∙ ap (λ T. eqb (length f.regions) 0 && (one_int f.params && same_type T int)) (header_result f rest)

@@ -1,5 +1,6 @@
 -- The walk over the items of a block gives the answer of the definitions for the block.
 use Rattle.std.proofs.Common.{◌≡◌, ℕ, zero, suc, ◌≤◌, Bool, true, false, not, ◌&&◌, eqb, leb, List, ◌∷◌, length, drop, Some, None, Ok, Option, Result, sym, refl, ap, ◌∙◌, arith, eqb-true}
+use Rattle.std.proofs.lemmas.List.{length-map}
 use Rattle.language.specs.Verdict.{Refused}
 use Rattle.language.specs.Syntax.{Ident, Atom, var, num, Right, atom, oper, nil, cons, call, test, region, split, Block, last, bind, print, Fun, Script}
 use Rattle.language.specs.Types.{Name, RegionType, int, list, same_type, mentions, depth, replaced}
@@ -10,7 +11,7 @@ use Rattle.draft.specs.Items.{Item, case_names, items_type, items_atom, items_ea
 use Rattle.scope.specs.Words.{row, declared, handed, type_at}
 use Rattle.checking.specs.Walk.{Functions, walk_atom, walk_need, parameters, result_type, walk_handed, argument, walk_arguments, called, walk_right, walk_block}
 use Rattle.checking.proofs.Sequences.{pair, triple, bound, put, knowing, going, either_type, two, tested, itself}
-use Rattle.checking.proofs.Parts.{atom-told, need-told, type-at_told, type-told, known-type_is, no-handed, handed-told, names-length, behind-handed, walk-handed_stops, walk-handed_told, no-argument, arguments-length, header, header_declared, header_parameters, header_result, typed-items, typed-length, arguments-told}
+use Rattle.checking.proofs.Parts.{atom-told, need-told, type-at_told, type-told, known-type_is, no-handed, handed-told, behind-handed, walk-handed_stops, walk-handed_told, no-argument, arguments-length, header, header_declared, header_parameters, header_result, typed-items, typed-length, arguments-told}
 use Rattle.checking.proofs.Lengths.{longer-atom, longer_right, longer_block}
 
 -- a function that is found, and its header among the items
@@ -40,7 +41,7 @@ called-told Γ g rs args b after f rest =
     let is = items_each items_handed rs (items_each items_atom args X) in
     let hs : row handed is ≡ names rs = handed-told rs (items_each items_atom args X) (no-handed args b after) in
     let n : length (row argument (drop (length (row handed is)) is)) ≡ length args =
-    ap (λ l. length (row argument (drop (length l) is))) hs ∙ ap (λ k. length (row argument (drop k is))) (names-length rs) ∙ ap (λ l. length (row argument l)) (behind-handed rs (items_each items_atom args X)) ∙ arguments-length args X (no-argument b after) in
+    ap (λ l. length (row argument (drop (length l) is))) hs ∙ ap (λ k. length (row argument (drop k is))) (length-map rs (λ (r : Ident). r.name)) ∙ ap (λ l. length (row argument l)) (behind-handed rs (items_each items_atom args X)) ∙ arguments-length args X (no-argument b after) in
     let qs = typed-items f.params (Item.an_outcome ∷ items_type f.result (items_block f.body rest)) in
     ap (λ m. called-by Γ g (row handed is) (row declared (header f rest)) (parameters (header f rest)) (result_type (header f rest)) m is) n
     ∙ ap (λ l. called-by Γ g l (row declared (header f rest)) (parameters (header f rest)) (result_type (header f rest)) (length args) is) hs
@@ -48,7 +49,7 @@ called-told Γ g rs args b after f rest =
     ∙ ap (λ l. called-by Γ g (names rs) (names f.regions) l (result_type (header f rest)) (length args) is) (header_parameters f rest)
     ∙ ap (λ T. called-by Γ g (names rs) (names f.regions) qs T (length args) is) (header_result f rest)
     ∙ ap (λ v. ask v 16 g.place >> (walk_handed Γ is >>= (λ more. walk_arguments Γ (names f.regions) (names rs) qs more >>= (λ after. pair after (at_call f rs f.result)))))
-    (ap (λ k. eqb k (length (names f.regions)) && eqb (length args) (length qs)) (names-length rs) ∙ ap (λ k. eqb (length rs) k && eqb (length args) (length qs)) (names-length f.regions) ∙ ap (λ k. eqb (length rs) (length f.regions) && eqb (length args) k) (typed-length f.params _))
+    (ap (λ k. eqb k (length (names f.regions)) && eqb (length args) (length qs)) (length-map rs (λ (r : Ident). r.name)) ∙ ap (λ k. eqb (length rs) k && eqb (length args) (length qs)) (length-map f.regions (λ (r : Ident). r.name)) ∙ ap (λ k. eqb (length rs) (length f.regions) && eqb (length args) k) (typed-length f.params _))
     ∙ tested (eqb (length rs) (length f.regions) && eqb (length args) (length f.params)) 16 g.place _ (known_regions Γ rs >> (need_all Γ args (needed f rs) >> Ok (at_call f rs f.result))) (pair X) (λ v.
     let m : length args ≡ length f.params = eqb-true (length args) (length f.params) (split-test (eqb (length rs) (length f.regions)) _ v) in
     going (known_regions Γ rs) (walk_handed Γ is) (items_each items_atom args X) (λ more. walk_arguments Γ (names f.regions) (names rs) qs more >>= (λ after. pair after (at_call f rs f.result))) (need_all Γ args (needed f rs) >> Ok (at_call f rs f.result)) (pair X)

@@ -48,9 +48,13 @@ abbrev pub walk_atom : Scope → List Item → Result Answer Refused
 walk_atom Γ [] = misplaced
 walk_atom Γ (i ∷ is) = atom_item Γ is i
 
+-- an answer of a type that it needs
+abbrev pub needed : Answer → RegionType → Result (List Item) Refused
+needed a T = ask (same_type a.0 T) 13 a.1 >> Ok a.2
+
 -- an atom of a type that it needs
 abbrev pub walk_need : Scope → RegionType → List Item → Result (List Item) Refused
-walk_need Γ T is = walk_atom Γ is >>= (λ a. ask (same_type a.0 T) 13 a.1 >> Ok a.2)
+walk_need Γ T is = walk_atom Γ is >>= (λ a. needed a T)
 
 -- a written type, its regions known
 abbrev pub walk_type : Scope → List Item → Result (List Item) Refused

@@ -1,75 +1,73 @@
 // Atoms and written types.
-ghost use Rattle.std.specs.Prelude.{◌≡◌, drop};
-ghost use Rattle.draft.specs.Items.{text_of, items};
+ghost use Rattle.std.specs.Prelude.{◌≡◌, IfOk};
+ghost use Rattle.draft.specs.Items.{items};
 ghost use Rattle.scope.specs.Words.{type_of};
 ghost use Rattle.scope.specs.Entries.{scope_of};
+ghost use Rattle.scope.specs.Spots.{ahead};
 ghost use Rattle.scope.specs.Verdicts.{told};
-ghost use Rattle.checking.specs.Walk.{walk_atom, walk_need, walk_type};
+ghost use Rattle.checking.specs.Walk.{walk_atom, needed as needed_of, walk_need, walk_type};
 ghost use Rattle.checking.specs.Reads.{answer_of, rest_of};
 
-use crate::part::{Typed, misplaced, unneeded};
+use crate::part::{Typed, ask, misplaced};
 use draft::command::Command;
 use draft::table::Table;
-use lexing::fault::Fault;
-use scope::command::command_at;
+use lexing::fault::{Fault, Question};
+use scope::spot::Spot;
 use scope::state::State;
 use scope::types::{Sort, same_sort};
 
-// The type of the atom at a position.
-pub(crate) fn atom(table: &Table, state: &State, position: usize) -> Result<Typed, Fault>
-    ensures { told (answer_of (items table.now)) result ≡ walk_atom (scope_of table.now state.now) (drop position (items table.now)) }
+// The type of the atom at a spot.
+pub(crate) fn atom<'a>(state: &State, spot: Spot<'a>) -> Result<Typed<'a>, Fault>
+    ensures verdict { told (answer_of spot.entry.table.now) result ≡ walk_atom (scope_of spot.entry.table.now state.now) (ahead spot.entry) }
+    ensures there { IfOk result (λ a. a.behind.table.now ≡ spot.entry.table.now) }
 {
-    match command_at(table, position) {
-        None => Err(misplaced()),
-        Some(command) => match command {
-            Command::Variable(name) => {
-                let sort = state.variable(table, name)?;
-                Ok(Typed {
-                    sort,
-                    place: name.place,
-                    behind: position + 1,
-                })
-            }
-            Command::Number(place, _) => Ok(Typed {
-                sort: Sort::Int,
-                place,
-                behind: position + 1,
-            }),
-            _ => Err(misplaced()),
-        },
+    match spot.split() {
+        Some((Command::Variable(name), behind)) => {
+            let sort = state.variable(spot.table, name)?;
+            Ok(Typed {
+                sort,
+                place: name.place,
+                behind,
+            })
+        }
+        Some((Command::Number(place, _), behind)) => Ok(Typed {
+            sort: Sort::Int,
+            place,
+            behind,
+        }),
+        _ => Err(misplaced()),
     }
 }
 
-// The atom at a position has the type that it needs.
-pub(crate) fn need(
-    table: &Table,
-    state: &State,
-    position: usize,
-    sort: Sort,
-) -> Result<usize, Fault>
-    ensures { told (rest_of (items table.now)) result ≡ walk_need (scope_of table.now state.now) (type_of (items table.now) sort) (drop position (items table.now)) }
+// A part has the type that it needs: the spot behind it.
+pub(crate) fn needed<'a>(table: &Table, part: Typed<'a>, sort: Sort) -> Result<Spot<'a>, Fault>
+    ensures verdict { told (rest_of table.now) result ≡ needed_of (answer_of table.now part.entry) (type_of (items table.now) sort) }
+    ensures there { IfOk result (λ u. u.table.now ≡ part.entry.behind.table.now) }
 {
-    let found = atom(table, state, position)?;
-    if same_sort(table, found.sort, sort) {
-        Ok(found.behind)
-    } else {
-        Err(unneeded(found.place))
-    }
+    let same = same_sort(table, part.sort, sort);
+    ask(same, Question::NeededType, part.place)?;
+    Ok(part.behind)
 }
 
-// The regions of the type at a position are known.
-pub(crate) fn written(table: &Table, state: &State, position: usize) -> Result<usize, Fault>
-    ensures { told (rest_of (items table.now)) result ≡ walk_type (scope_of table.now state.now) (drop position (items table.now)) }
+// The atom at a spot has the type that it needs.
+pub(crate) fn need<'a>(state: &State, spot: Spot<'a>, sort: Sort) -> Result<Spot<'a>, Fault>
+    ensures verdict { told (rest_of spot.entry.table.now) result ≡ walk_need (scope_of spot.entry.table.now state.now) (type_of (items spot.entry.table.now) sort) (ahead spot.entry) }
+    ensures there { IfOk result (λ u. u.table.now ≡ spot.entry.table.now) }
 {
-    match command_at(table, position) {
-        None => Err(misplaced()),
-        Some(command) => match command {
-            Command::List(name) => {
-                state.known_region(table, name)?;
-                written(table, state, position + 1)
-            }
-            Command::Int => Ok(position + 1),
-            _ => Err(misplaced()),
-        },
+    needed(spot.table, atom(state, spot)?, sort)
+}
+
+// The regions of the type at a spot are known.
+pub(crate) fn written<'a>(state: &State, spot: Spot<'a>) -> Result<Spot<'a>, Fault>
+    ensures verdict { told (rest_of spot.entry.table.now) result ≡ walk_type (scope_of spot.entry.table.now state.now) (ahead spot.entry) }
+    ensures there { IfOk result (λ u. u.table.now ≡ spot.entry.table.now) }
+{
+    match spot.split() {
+        Some((Command::List(name), behind)) => {
+            state.known_region(spot.table, name)?;
+            written(state, behind)
+        }
+        Some((Command::Int, behind)) => Ok(behind),
+        _ => Err(misplaced()),
     }
 }

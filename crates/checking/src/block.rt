@@ -1,221 +1,166 @@
 // Blocks, and the right sides that hold blocks.
-ghost use Rattle.std.specs.Prelude.{◌≡◌, drop};
+ghost use Rattle.std.specs.Prelude.{◌≡◌, IfOk};
 ghost use Rattle.draft.specs.Items.{text_of, items, ident};
 ghost use Rattle.scope.specs.Words.{type_of};
 ghost use Rattle.scope.specs.Entries.{scope_of, Grown};
+ghost use Rattle.scope.specs.Spots.{ahead};
 ghost use Rattle.scope.specs.Verdicts.{told};
-ghost use Rattle.checking.specs.Walk.{walk_names, walk_block, walk_right, walk_test, walk_region, walk_second, walk_case};
-ghost use Rattle.checking.specs.Reads.{answer_of, pair_of, names_of, functions_of, Kept};
+ghost use Rattle.checking.specs.Walk.{block_front, walk_right, walk_test, walk_region, walk_second, walk_case};
+ghost use Rattle.checking.specs.Reads.{answer_of, pair_of, functions_of, blocks_of, Kept};
 
-use crate::atom::{atom, need};
+use crate::atom::{atom, need, needed};
 use crate::call::call;
-use crate::part::{Functions, Typed, misplaced, unneeded};
+use crate::part::{Typed, Walk, ask, misplaced, unneeded};
 use crate::side::{cons, nil, operate};
 use draft::command::{Command, Name};
-use draft::table::Table;
 use lexing::fault::{Fault, Question};
-use scope::command::command_at;
+use scope::spot::Spot;
 use scope::state::{Hold, MOST_VARIABLES, State};
-use scope::types::{Sort, head, mentions, same_sort};
+use scope::types::{Sort, head, mentions};
 
-// The two names of a case, and the position behind them.
-fn names(table: &Table, position: usize) -> Result<(Name, Name, usize), Fault>
-    ensures { told (names_of table.now) result ≡ walk_names (drop position (items table.now)) }
-{
-    match command_at(table, position) {
-        None => Err(misplaced()),
-        Some(command) => match command {
-            Command::CaseNames(first, second) => Ok((first, second, position + 1)),
-            _ => Err(misplaced()),
-        },
-    }
-}
-
-// A block in a scope of its own, in at most `steps` items; what was in scope is so again behind it.
-#[cycle(block_region_rest_right_second_split_test)]
-pub(crate) fn block(
-    table: &Table,
-    functions: &Functions,
-    state: &mut State,
-    position: usize,
-    steps: usize,
-) -> Result<Typed, Fault>
-    ensures verdict { told (answer_of (items table.now)) result ≡ walk_block steps (functions_of table.now functions.now) (scope_of table.now state.old) (drop position (items table.now)) }
+// A block in a scope of its own, in at most so many items; what was in scope is so again behind it.
+#[cycle(block_item_region_rest_right_second_split_test)]
+pub(crate) fn block<'a>(walk: Walk, state: &mut State, spot: Spot<'a>) -> Result<Typed<'a>, Fault>
+    ensures verdict { told (answer_of spot.entry.table.now) result ≡ blocks_of spot.entry.table.now walk.entry (scope_of spot.entry.table.now state.old) (ahead spot.entry) }
+    ensures there { IfOk result (λ a. a.behind.table.now ≡ spot.entry.table.now) }
     ensures kept { Kept state.old state.new }
 {
-    let saved = state.counts;
+    let saved = state.counts();
     let hold = Hold { state, saved };
-    rest(table, functions, hold.state, position, steps)
+    rest(walk, hold.state, spot)
 }
 
-// The items of a block from a position on.
-#[cycle(block_region_rest_right_second_split_test)]
-fn rest(
-    table: &Table,
-    functions: &Functions,
-    state: &mut State,
-    position: usize,
-    steps: usize,
-) -> Result<Typed, Fault>
-    ensures verdict { told (answer_of (items table.now)) result ≡ walk_block steps (functions_of table.now functions.now) (scope_of table.now state.old) (drop position (items table.now)) }
+// The items of a block from a spot on.
+#[cycle(block_item_region_rest_right_second_split_test)]
+fn rest<'a>(walk: Walk, state: &mut State, spot: Spot<'a>) -> Result<Typed<'a>, Fault>
+    ensures verdict { told (answer_of spot.entry.table.now) result ≡ blocks_of spot.entry.table.now walk.entry (scope_of spot.entry.table.now state.old) (ahead spot.entry) }
+    ensures there { IfOk result (λ a. a.behind.table.now ≡ spot.entry.table.now) }
     ensures grown { Grown state.old state.new }
 {
-    if steps == 0 {
-        return Err(misplaced());
-    }
-    match command_at(table, position) {
-        None => Err(misplaced()),
-        Some(command) => match command {
-            Command::Last => atom(table, state, position + 1),
-            Command::Let(name) => {
-                state.new_variable(table, MOST_VARIABLES, name)?;
-                let (sort, behind) = right(table, functions, state, position + 1, steps - 1)?;
-                state.add_variable(name, sort);
-                rest(table, functions, state, behind, steps - 1)
-            }
-            Command::Print(_) => {
-                let behind = need(table, state, position + 1, Sort::Int)?;
-                rest(table, functions, state, behind, steps - 1)
-            }
-            _ => Err(misplaced()),
-        },
+    item(walk.fewer()?, state, spot)
+}
+
+// The first item of a block, and what follows it in at most so many items.
+#[cycle(block_item_region_rest_right_second_split_test)]
+fn item<'a>(walk: Walk, state: &mut State, spot: Spot<'a>) -> Result<Typed<'a>, Fault>
+    ensures verdict { told (answer_of spot.entry.table.now) result ≡ block_front (blocks_of spot.entry.table.now walk.entry) (functions_of spot.entry.table.now walk.entry.functions.now) (scope_of spot.entry.table.now state.old) (ahead spot.entry) }
+    ensures there { IfOk result (λ a. a.behind.table.now ≡ spot.entry.table.now) }
+    ensures grown { Grown state.old state.new }
+{
+    match spot.split() {
+        Some((Command::Last, behind)) => atom(state, behind),
+        Some((Command::Let(name), side)) => {
+            state.new_variable(spot.table, MOST_VARIABLES, name)?;
+            let (sort, behind) = right(walk, state, side)?;
+            state.add_variable(name, sort);
+            rest(walk, state, behind)
+        }
+        Some((Command::Print(_), value)) => {
+            let behind = need(state, value, Sort::Int)?;
+            rest(walk, state, behind)
+        }
+        _ => Err(misplaced()),
     }
 }
 
-// A right side: its type, and the position behind it.
-#[cycle(block_region_rest_right_second_split_test)]
-fn right(
-    table: &Table,
-    functions: &Functions,
-    state: &mut State,
-    position: usize,
-    steps: usize,
-) -> Result<(Sort, usize), Fault>
-    ensures verdict { told (pair_of (items table.now)) result ≡ walk_right (walk_block steps (functions_of table.now functions.now)) (functions_of table.now functions.now) (scope_of table.now state.old) (drop position (items table.now)) }
+// A right side: its type, and the spot behind it.
+#[cycle(block_item_region_rest_right_second_split_test)]
+fn right<'a>(walk: Walk, state: &mut State, spot: Spot<'a>) -> Result<(Sort, Spot<'a>), Fault>
+    ensures verdict { told (pair_of spot.entry.table.now) result ≡ walk_right (blocks_of spot.entry.table.now walk.entry) (functions_of spot.entry.table.now walk.entry.functions.now) (scope_of spot.entry.table.now state.old) (ahead spot.entry) }
+    ensures there { IfOk result (λ a. a.1.table.now ≡ spot.entry.table.now) }
     ensures kept { Kept state.old state.new }
 {
-    match command_at(table, position) {
-        None => Err(misplaced()),
-        Some(command) => match command {
-            Command::Variable(name) => Ok((state.variable(table, name)?, position + 1)),
-            Command::Number(_, _) => Ok((Sort::Int, position + 1)),
-            Command::Operate(_, _) => operate(table, state, position + 1),
-            Command::Nil(place, name) => nil(table, state, place, name, position),
-            Command::Cons(_, name) => cons(table, state, name, position + 1),
-            Command::Call(_, name) => call(table, functions, state, name, position + 1),
-            Command::If(_) => test(table, functions, state, position + 1, steps),
-            Command::Region(_, name) => region(table, functions, state, name, position + 1, steps),
-            Command::Case(_) => split(table, functions, state, position + 1, steps),
-            _ => Err(misplaced()),
-        },
+    let Some((command, behind)) = spot.split() else {
+        return Err(misplaced());
+    };
+    match command {
+        Command::Variable(name) => Ok((state.variable(spot.table, name)?, behind)),
+        Command::Number(_, _) => Ok((Sort::Int, behind)),
+        Command::Operate(_, _) => operate(state, behind),
+        Command::Nil(place, name) => nil(state, place, name, Sort::Written(spot.position), behind),
+        Command::Cons(_, name) => cons(state, name, behind),
+        Command::Call(_, name) => call(walk.functions, state, name, behind),
+        Command::If(_) => test(walk, state, behind),
+        Command::Region(_, name) => region(walk, state, name, behind),
+        Command::Case(_) => split(walk, state, behind),
+        _ => Err(misplaced()),
     }
 }
 
 // Both blocks of an `if` have one type.
-#[cycle(block_region_rest_right_second_split_test)]
-fn test(
-    table: &Table,
-    functions: &Functions,
-    state: &mut State,
-    position: usize,
-    steps: usize,
-) -> Result<(Sort, usize), Fault>
-    ensures verdict { told (pair_of (items table.now)) result ≡ walk_test (walk_block steps (functions_of table.now functions.now)) (scope_of table.now state.old) (drop position (items table.now)) }
+#[cycle(block_item_region_rest_right_second_split_test)]
+fn test<'a>(walk: Walk, state: &mut State, spot: Spot<'a>) -> Result<(Sort, Spot<'a>), Fault>
+    ensures verdict { told (pair_of spot.entry.table.now) result ≡ walk_test (blocks_of spot.entry.table.now walk.entry) (scope_of spot.entry.table.now state.old) (ahead spot.entry) }
+    ensures there { IfOk result (λ a. a.1.table.now ≡ spot.entry.table.now) }
     ensures kept { Kept state.old state.new }
 {
-    let behind = need(table, state, position, Sort::Int)?;
-    let first = block(table, functions, state, behind, steps)?;
-    let second = block(table, functions, state, first.behind, steps)?;
-    if same_sort(table, second.sort, first.sort) {
-        Ok((first.sort, second.behind))
-    } else {
-        Err(unneeded(second.place))
-    }
+    let behind = need(state, spot, Sort::Int)?;
+    let first = block(walk, state, behind)?;
+    let second = block(walk, state, first.behind)?;
+    let behind = needed(spot.table, second, first.sort)?;
+    Ok((first.sort, behind))
 }
 
 // A region is known inside its block, whose type does not mention it.
-#[cycle(block_region_rest_right_second_split_test)]
-fn region(
-    table: &Table,
-    functions: &Functions,
+#[cycle(block_item_region_rest_right_second_split_test)]
+fn region<'a>(
+    walk: Walk,
     state: &mut State,
     name: Name,
-    position: usize,
-    steps: usize,
-) -> Result<(Sort, usize), Fault>
-    ensures verdict { told (pair_of (items table.now)) result ≡ walk_region (walk_block steps (functions_of table.now functions.now)) (scope_of table.now state.old) (ident (text_of table.now) name) (drop position (items table.now)) }
+    spot: Spot<'a>,
+) -> Result<(Sort, Spot<'a>), Fault>
+    ensures verdict { told (pair_of spot.entry.table.now) result ≡ walk_region (blocks_of spot.entry.table.now walk.entry) (scope_of spot.entry.table.now state.old) (ident (text_of spot.entry.table.now) name) (ahead spot.entry) }
+    ensures there { IfOk result (λ a. a.1.table.now ≡ spot.entry.table.now) }
     ensures kept { Kept state.old state.new }
 {
-    state.new_region(table, name)?;
-    let saved = state.counts;
+    state.new_region(spot.table, name)?;
+    let saved = state.counts();
     let hold = Hold { state, saved };
     hold.state.add_region(name);
-    let inside = block(table, functions, hold.state, position, steps)?;
-    if mentions(table, name, inside.sort) {
-        Err(Fault {
-            question: Question::ClosedRegion,
-            place: inside.place,
-        })
-    } else {
-        Ok((inside.sort, inside.behind))
-    }
+    let inside = block(walk, hold.state, spot)?;
+    let mentioned = mentions(spot.table, name, inside.sort);
+    ask(!mentioned, Question::ClosedRegion, inside.place)?;
+    Ok((inside.sort, inside.behind))
 }
 
 // The block for a list that is not empty, in which the two names are an element and a list.
-#[cycle(block_region_rest_right_second_split_test)]
-fn second(
-    table: &Table,
-    functions: &Functions,
+#[cycle(block_item_region_rest_right_second_split_test)]
+fn second<'a>(
+    walk: Walk,
     state: &mut State,
     element: Sort,
     list: Sort,
-    position: usize,
-    steps: usize,
-) -> Result<Typed, Fault>
-    ensures verdict { told (answer_of (items table.now)) result ≡ walk_second (walk_block steps (functions_of table.now functions.now)) (scope_of table.now state.old) (type_of (items table.now) element) (type_of (items table.now) list) (drop position (items table.now)) }
+    spot: Spot<'a>,
+) -> Result<Typed<'a>, Fault>
+    ensures verdict { told (answer_of spot.entry.table.now) result ≡ walk_second (blocks_of spot.entry.table.now walk.entry) (scope_of spot.entry.table.now state.old) (type_of (items spot.entry.table.now) element) (type_of (items spot.entry.table.now) list) (ahead spot.entry) }
+    ensures there { IfOk result (λ a. a.behind.table.now ≡ spot.entry.table.now) }
     ensures kept { Kept state.old state.new }
 {
-    let (first, other, behind) = names(table, position)?;
-    let saved = state.counts;
+    let Some((Command::CaseNames(first, other), behind)) = spot.split() else {
+        return Err(misplaced());
+    };
+    let saved = state.counts();
     let hold = Hold { state, saved };
-    hold.state.new_variable(table, MOST_VARIABLES, first)?;
+    hold.state.new_variable(spot.table, MOST_VARIABLES, first)?;
     hold.state.add_variable(first, element);
-    hold.state.new_variable(table, MOST_VARIABLES, other)?;
+    hold.state.new_variable(spot.table, MOST_VARIABLES, other)?;
     hold.state.add_variable(other, list);
-    block(table, functions, hold.state, behind, steps)
+    block(walk, hold.state, behind)
 }
 
 // Both blocks of a `case` have one type.
-#[cycle(block_region_rest_right_second_split_test)]
-fn split(
-    table: &Table,
-    functions: &Functions,
-    state: &mut State,
-    position: usize,
-    steps: usize,
-) -> Result<(Sort, usize), Fault>
-    ensures verdict { told (pair_of (items table.now)) result ≡ walk_case (walk_block steps (functions_of table.now functions.now)) (scope_of table.now state.old) (drop position (items table.now)) }
+#[cycle(block_item_region_rest_right_second_split_test)]
+fn split<'a>(walk: Walk, state: &mut State, spot: Spot<'a>) -> Result<(Sort, Spot<'a>), Fault>
+    ensures verdict { told (pair_of spot.entry.table.now) result ≡ walk_case (blocks_of spot.entry.table.now walk.entry) (scope_of spot.entry.table.now state.old) (ahead spot.entry) }
+    ensures there { IfOk result (λ a. a.1.table.now ≡ spot.entry.table.now) }
     ensures kept { Kept state.old state.new }
 {
-    let list = atom(table, state, position)?;
-    match head(table, list.sort) {
-        None => Err(unneeded(list.place)),
-        Some((_, element)) => {
-            let first = block(table, functions, state, list.behind, steps)?;
-            let other = second(
-                table,
-                functions,
-                state,
-                element,
-                list.sort,
-                first.behind,
-                steps,
-            )?;
-            if same_sort(table, other.sort, first.sort) {
-                Ok((first.sort, other.behind))
-            } else {
-                Err(unneeded(other.place))
-            }
-        }
-    }
+    let list = atom(state, spot)?;
+    let Some((_, element)) = head(spot.table, list.sort) else {
+        return Err(unneeded(list.place));
+    };
+    let first = block(walk, state, list.behind)?;
+    let other = second(walk, state, element, list.sort, first.behind)?;
+    let behind = needed(spot.table, other, first.sort)?;
+    Ok((first.sort, behind))
 }

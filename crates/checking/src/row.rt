@@ -1,123 +1,101 @@
 // What stands in a row: regions declared and handed over, parameters and the atoms for them.
-ghost use Rattle.std.specs.Prelude.{◌≡◌, ◌+◌, ◌<◌, ◌&&◌, [], ◌∷◌, length, drop, MatchOption, ◌==◌};
-ghost use Rattle.std.specs.Option.{option_map};
+ghost use Rattle.std.specs.Prelude.{◌≡◌, ◌+◌, ◌<◌, ◌&&◌, [], ◌∷◌, length, drop, Some as some, None as none, MatchOption, ◌==◌};
 ghost use Rattle.draft.specs.Items.{items};
 ghost use Rattle.language.specs.Types.{replaced};
 ghost use Rattle.scope.specs.Words.{row, declared, handed, type_of};
-ghost use Rattle.checking.specs.Walk.{argument, parameters, outcome, result_type};
-ghost use Rattle.checking.specs.Reads.{rest_of};
+ghost use Rattle.scope.specs.Spots.{ahead, Behind};
+ghost use Rattle.checking.specs.Walk.{argument, parameters, outcome as outcome_of, result_type};
 
 use draft::command::Command;
-use draft::table::Table;
-use scope::command::{command_at, declared_at, handed_at};
+use scope::spot::Spot;
 use scope::types::Sort;
 
 // Whether a call hands over as many regions as a header declares.
-fn same_regions(table: &Table, header: usize, position: usize) -> bool
-    ensures { result ≡ (length (row handed (drop position (items table.now))) == length (row declared (drop header (items table.now)))) }
+fn same_regions(header: Spot, call: Spot) -> bool
+    ensures { result ≡ (length (row handed (ahead call.entry)) == length (row declared (ahead header.entry))) }
 {
-    match handed_at(table, position) {
-        None => match declared_at(table, header) {
-            None => true,
-            Some(_) => false,
-        },
-        Some(_) => match declared_at(table, header) {
-            None => false,
-            Some(_) => same_regions(table, header + 1, position + 1),
-        },
+    match (call.handed(), header.declared()) {
+        (None, None) => true,
+        (Some((_, others)), Some((_, more))) => same_regions(more, others),
+        _ => false,
     }
 }
 
-// The position behind the regions that a call hands over.
-fn behind_handed(table: &Table, position: usize) -> usize
-    ensures { drop result (items table.now) ≡ drop (length (row handed (drop position (items table.now)))) (drop position (items table.now)) }
+// The spot behind the regions that a call hands over.
+fn behind_handed<'a>(call: Spot<'a>) -> Spot<'a>
+    ensures { ahead result ≡ drop (length (row handed (ahead call.entry))) (ahead call.entry) }
 {
-    match handed_at(table, position) {
-        None => position,
-        Some(_) => behind_handed(table, position + 1),
+    match call.handed() {
+        None => call,
+        Some((_, others)) => behind_handed(others),
     }
 }
 
-// The position behind an atom that a call hands over.
-fn argument_at(table: &Table, position: usize) -> Option<usize>
-    ensures { MatchOption result (row argument (drop position (items table.now)) ≡ []) (λ p. (position < 4096) × (p ≡ position + 1) × (row argument (drop position (items table.now)) ≡ tt ∷ row argument (drop p (items table.now)))) }
+// The spot behind an atom that a call hands over.
+fn argument_behind<'a>(spot: Spot<'a>) -> Option<Spot<'a>>
+    ensures { MatchOption result (row argument (ahead spot.entry) ≡ []) (λ u. Behind spot.entry u × (row argument (ahead spot.entry) ≡ tt ∷ row argument (ahead u))) }
 {
-    match command_at(table, position) {
-        None => None,
-        Some(command) => match command {
-            Command::Variable(_) => Some(position + 1),
-            Command::Number(_, _) => Some(position + 1),
-            _ => None,
-        },
+    match spot.split() {
+        Some((Command::Variable(_) | Command::Number(_, _), behind)) => Some(behind),
+        _ => None,
     }
 }
 
-// The position of the type of a header's next parameter.
-pub(crate) fn parameter_at(table: &Table, position: usize) -> Option<usize>
-    ensures { MatchOption result (parameters (drop position (items table.now)) ≡ []) (λ p. (position < p) × (p < 4097) × (parameters (drop position (items table.now)) ≡ drop p (items table.now) ∷ parameters (drop p (items table.now)))) }
+// The spot of the type of a header's next parameter.
+pub(crate) fn parameter<'a>(header: Spot<'a>) -> Option<Spot<'a>>
+    ensures { MatchOption result (parameters (ahead header.entry) ≡ []) (λ u. (u.table.now ≡ header.entry.table.now) × (header.entry.position < u.position) × (u.position < 4097) × (parameters (ahead header.entry) ≡ ahead u ∷ parameters (ahead u))) }
 {
-    match command_at(table, position) {
-        None => None,
-        Some(command) => match command {
-            Command::Parameter(_) => Some(position + 1),
-            Command::HeaderRegion(_) => parameter_at(table, position + 1),
-            Command::List(_) => parameter_at(table, position + 1),
-            Command::Int => parameter_at(table, position + 1),
-            _ => None,
-        },
+    let (command, behind) = header.split()?;
+    match command {
+        Command::Parameter(_) => Some(behind),
+        Command::HeaderRegion(_) | Command::List(_) | Command::Int => parameter(behind),
+        _ => None,
     }
 }
+
+// Not one with `same_regions`: a walk that takes the two steps as closures needs a law of each, and is longer than both.
 
 // Whether a call hands over as many atoms as a header has parameters.
-fn same_arguments(table: &Table, header: usize, position: usize) -> bool
-    ensures { result ≡ (length (row argument (drop position (items table.now))) == length (parameters (drop header (items table.now)))) }
+fn same_arguments(header: Spot, call: Spot) -> bool
+    ensures { result ≡ (length (row argument (ahead call.entry)) == length (parameters (ahead header.entry))) }
 {
-    match argument_at(table, position) {
-        None => match parameter_at(table, header) {
-            None => true,
-            Some(_) => false,
-        },
-        Some(next) => match parameter_at(table, header) {
-            None => false,
-            Some(behind) => same_arguments(table, behind, next),
-        },
+    match (argument_behind(call), parameter(header)) {
+        (None, None) => true,
+        (Some(others), Some(more)) => same_arguments(more, others),
+        _ => false,
     }
 }
 
 // Whether a call has as many regions and atoms as the function.
-pub(crate) fn fits(table: &Table, header: usize, position: usize) -> bool
-    ensures { result ≡ (length (row handed (drop position (items table.now))) == length (row declared (drop header (items table.now))) && length (row argument (drop (length (row handed (drop position (items table.now)))) (drop position (items table.now)))) == length (parameters (drop header (items table.now)))) }
+pub(crate) fn fits(header: Spot, call: Spot) -> bool
+    ensures { result ≡ (length (row handed (ahead call.entry)) == length (row declared (ahead header.entry)) && length (row argument (drop (length (row handed (ahead call.entry))) (ahead call.entry))) == length (parameters (ahead header.entry))) }
 {
-    if same_regions(table, header, position) {
-        same_arguments(table, header, behind_handed(table, position))
-    } else {
-        false
-    }
+    same_regions(header, call) && same_arguments(header, behind_handed(call))
 }
 
-// The position of a header's result type.
-pub(crate) fn outcome_at(table: &Table, position: usize) -> Option<usize>
-    ensures { option_map (rest_of (items table.now)) result ≡ outcome (drop position (items table.now)) }
+// Not one with `parameter`: they pass over and stop at different commands, so that a shared walk would take both choices as closures.
+
+// The spot of a header's result type.
+pub(crate) fn outcome<'a>(header: Spot<'a>) -> Option<Spot<'a>>
+    ensures { MatchOption result (outcome_of (ahead header.entry) ≡ none) (λ u. (u.table.now ≡ header.entry.table.now) × (outcome_of (ahead header.entry) ≡ some (ahead u))) }
 {
-    match command_at(table, position) {
-        None => None,
-        Some(command) => match command {
-            Command::Outcome => Some(position + 1),
-            Command::Parameter(_) => outcome_at(table, position + 1),
-            Command::HeaderRegion(_) => outcome_at(table, position + 1),
-            Command::List(_) => outcome_at(table, position + 1),
-            Command::Int => outcome_at(table, position + 1),
-            _ => None,
-        },
+    let (command, behind) = header.split()?;
+    match command {
+        Command::Outcome => Some(behind),
+        Command::Parameter(_) | Command::HeaderRegion(_) | Command::List(_) | Command::Int => {
+            outcome(behind)
+        }
+        _ => None,
     }
 }
 
 // The type of a call: the header's result type, with the regions that it declares replaced by those that the call hands over.
-pub(crate) fn result_at(table: &Table, header: usize, position: usize) -> Sort
-    ensures { type_of (items table.now) result ≡ replaced (row declared (drop header (items table.now))) (row handed (drop position (items table.now))) (result_type (drop header (items table.now))) }
+pub(crate) fn result_of(header: usize, call: Spot) -> Sort
+    ensures { type_of (items call.entry.table.now) result ≡ replaced (row declared (drop header (items call.entry.table.now))) (row handed (ahead call.entry)) (result_type (drop header (items call.entry.table.now))) }
 {
-    match outcome_at(table, header) {
-        Some(words) => Sort::Called(words, header, position),
+    // A `map_or` was tried: what its closure answers could not be told of the words' spot.
+    match outcome(Spot::at(call.table, header)) {
+        Some(words) => Sort::Called(words.position, header, call.position),
         None => Sort::Int,
     }
 }

@@ -69,11 +69,11 @@ item text (CaseNames n m) = case_names (ident text n) (ident text m)
 
 -- the text that a table keeps
 abbrev pub text_of : Table → List ℕ
-text_of t = take t.length t.text
+text_of t = t.text.items
 
 -- what a table's commands say
 abbrev pub items : Table → List Item
-items t = map (item (text_of t)) (take t.count t.commands)
+items t = map (item (text_of t)) t.commands.items
 
 -- the items of each part of a script are told with the items that follow them
 

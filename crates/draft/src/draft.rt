@@ -1,5 +1,5 @@
 // A draft, which holds one script.
-ghost use Rattle.std.specs.Prelude.{◌≡◌, []};
+ghost use Rattle.std.specs.Prelude.{◌≡◌, [], length};
 ghost use Rattle.language.specs.Syntax.{Script};
 ghost use Rattle.draft.specs.Items.{items, items_of, text_of};
 ghost use Rattle.draft.specs.Origin.{WasRead};
@@ -18,7 +18,7 @@ impl Draft {
     pub fn new() -> Draft
         ensures items { items result.table ≡ items_of [] }
         ensures text { text_of result.table ≡ [] }
-        ensures length { result.table.length ≡ 0 }
+        ensures length { length result.table.text.items ≡ 0 }
     {
         Draft {
             table: Table::new(),

@@ -1,4 +1,4 @@
-// Drafts: a script that was read and not yet checked, as a counted table of commands, with the text that its names stand in.
+// Drafts: a script that was read and not yet checked, as a table of commands, with the text that its names stand in.
 #![tactic(auto)]
 
 pub mod command;

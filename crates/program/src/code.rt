@@ -1,15 +1,17 @@
-// Counted commands and functions, as they are laid down one after the other.
+// Commands and functions, as they are laid down one after the other.
 ghost use Rattle.std.specs.Prelude.{◌≡◌, []};
 ghost use Rattle.program.specs.Held.{commands, functions};
 
 use crate::command::{Command, Function};
+use rows::row::Row;
+
+// The commands of a program.
+pub type Tape = Row<Command, 4_096>;
 
 #[derive(Clone, Copy)]
 pub struct Code {
-    pub commands: [Command; 4_096],
-    pub count: usize,
-    pub functions: [Function; 64],
-    pub many: usize,
+    pub commands: Tape,
+    pub functions: Row<Function, 64>,
     pub main: usize,
 }
 
@@ -18,19 +20,14 @@ impl Code {
     pub fn new() -> Code
         ensures commands { commands result ≡ [] }
         ensures functions { functions result ≡ [] }
-        ensures count { result.count ≡ 0 }
-        ensures many { result.many ≡ 0 }
     {
-        let function = Function {
-            start: 0,
-            regions: 0,
-            params: 0,
-        };
         Code {
-            commands: [Command::Nil { slot: 0 }; 4_096],
-            count: 0,
-            functions: [function; 64],
-            many: 0,
+            commands: Row::new(Command::Nil { slot: 0 }),
+            functions: Row::new(Function {
+                start: 0,
+                regions: 0,
+                params: 0,
+            }),
             main: 0,
         }
     }

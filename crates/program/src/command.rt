@@ -9,7 +9,8 @@ pub enum Operand {
 }
 
 // How a block ends: the function returns, or the block's value goes to a slot, its region closes or there is none,
-// and the run goes on at the command `next`.
+// and the run goes on at the command `next`. Not an Option: none would not say that the function returns.
+// Whether a region closes is asked of every way of leaving, beside its slot, so that the flag stands alone.
 #[derive(Clone, Copy)]
 pub enum Way {
     Return,

@@ -1,6 +1,6 @@
 // A program: empty, or the code of a script that has passed every question.
-ghost use Rattle.std.specs.Prelude.{◌≡◌, ◌==◌};
-ghost use Rattle.program.specs.Held.{Sound};
+ghost use Rattle.std.specs.Prelude.{◌≡◌, ◌==◌, [], length};
+ghost use Rattle.program.specs.Held.{Sound, commands};
 
 use crate::code::Code;
 
@@ -13,7 +13,7 @@ pub struct Program {
 impl Program {
     // The empty program, which counts as none.
     pub fn empty() -> Program
-        ensures { result.code.count ≡ 0 }
+        ensures { commands result.code ≡ [] }
     {
         Program { code: Code::new() }
     }
@@ -28,8 +28,8 @@ impl Program {
 
     // Whether there is no command.
     pub fn is_empty(&self) -> bool
-        ensures { result ≡ (self.now.code.count == 0) }
+        ensures { result ≡ (length (commands self.now.code) == 0) }
     {
-        self.code.count == 0
+        self.code.commands.len() == 0
     }
 }

@@ -1,13 +1,13 @@
 -- A block and its inside, with what is read first in front.
-use Rattle.std.proofs.Common.{◌≡◌, ℕ, zero, suc, ◌-◌, ◌<◌, false, List, Err, codes, refl, ap, ◌∙◌, arith}
+use Rattle.std.proofs.Common.{◌≡◌, ℕ, zero, suc, ◌-◌, ◌<◌, false, true, List, length, Err, codes, sym, refl, ap, ◌∙◌, arith}
 use Rattle.lexing.specs.declared.token.Kind.TheVariants.{Keyword, Mark}
 use Rattle.lexing.specs.Tokens.{Lexeme}
 use Rattle.language.specs.Syntax.{Block}
 use Rattle.language.specs.Reading.{Reader, on, starts, refuse, too_deep, let_of, print_of, last_of}
 use Rattle.reading.specs.declared.cursor.Cursor.{Cursor}
-use Rattle.reading.specs.Cursors.{ahead, end_of, Sound, Past}
-use Rattle.reading.specs.Parts.{side_of, nested_of, inside_of}
-use Rattle.reading.proofs.Steps.{on-met, on-other, refuse-is}
+use Rattle.reading.specs.Cursors.{ahead, end_of, Skips}
+use Rattle.reading.specs.Parts.{behind_word, side_of, nested_of, inside_of}
+use Rattle.reading.proofs.Steps.{on-met, on-other, refuse-is, here-is}
 
 abbrev block-form : ℕ → ℕ → ℕ → ℕ → Reader Block
 block-form n room zero p = too_deep p
@@ -17,15 +17,20 @@ block_is : (n room blocks : ℕ) (ts : List Lexeme) → nested_of n room blocks 
 block_is n room zero ts = refl
 block_is n room (suc b) ts = refl
 
-pub block_refused : (room blocks : ℕ) (c : Cursor) → Sound c → starts Mark (codes "{") (ahead c) ≡ false → nested_of (end_of c) room blocks (ahead c) ≡ Err (record { number = 6; place = c.place })
-block_refused room blocks c s e = block_is (end_of c) room blocks (ahead c) ∙ on-other Mark (codes "{") c (block-form (end_of c) room blocks) (refuse (end_of c) 6) e ∙ refuse-is c s
+pub block_refused : (room blocks : ℕ) (c : Cursor) → starts Mark (codes "{") (ahead c) ≡ false → nested_of (end_of c) room blocks (ahead c) ≡ Err (record { number = 6; place = c.place })
+block_refused room blocks c e = block_is (end_of c) room blocks (ahead c) ∙ on-other (end_of c) Mark (codes "{") (ahead c) (block-form (end_of c) room blocks) (refuse (end_of c) 6) e ∙ refuse-is c
 
-block_more : (n room blocks p : ℕ) (ts : List Lexeme) → 0 < blocks → block-form n room blocks p ts ≡ inside_of n room room (blocks - 1) ts
-block_more n room zero p ts h = absurd (omega arith)
-block_more n room (suc b) p ts h = ap (λ (m : ℕ). inside_of n room room m ts) (let e : b ≡ suc b - 1 = omega arith in e)
+pub block-deep : (room blocks : ℕ) (c : Cursor) → starts Mark (codes "{") (ahead c) ≡ true → blocks ≡ 0 → nested_of (end_of c) room blocks (ahead c) ≡ Err (record { number = 7; place = c.place })
+block-deep room zero c e b = on-met (end_of c) Mark (codes "{") (ahead c) (block-form (end_of c) room 0) (refuse (end_of c) 6) e ∙ ap (λ p. Err (record { number = 7; place = p })) (here-is c)
+block-deep room (suc n) c e b = absurd (omega arith)
 
-pub block-opens : (room blocks : ℕ) (c d : Cursor) → Past Mark (codes "{") c d → 0 < blocks → nested_of (end_of c) room blocks (ahead c) ≡ inside_of (end_of c) room room (blocks - 1) (ahead d)
-block-opens room blocks c d p h = block_is (end_of c) room blocks (ahead c) ∙ on-met Mark (codes "{") c d (block-form (end_of c) room blocks) (refuse (end_of c) 6) p ∙ block_more (end_of c) room blocks c.place (ahead d) h
+pub block-opens : (room blocks : ℕ) (c d : Cursor) → starts Mark (codes "{") (ahead c) ≡ true → Skips c d → 0 < blocks → nested_of (end_of c) room blocks (ahead c) ≡ inside_of (end_of d) room room (blocks - 1) (ahead d)
+block-opens room zero c d e s h = absurd (omega arith)
+block-opens room (suc b) c d e s h =
+    on-met (end_of c) Mark (codes "{") (ahead c) (block-form (end_of c) room (suc b)) (refuse (end_of c) 6) e
+    ∙ ap (inside_of (end_of c) room room b) s.rest
+    ∙ ap (λ m. inside_of (end_of c) room room m (ahead d)) (let e : b ≡ suc b - 1 = omega arith in e)
+    ∙ ap (λ n. inside_of n room room (suc b - 1) (ahead d)) (sym (ap length s.like.text))
 
 abbrev inside-form : ℕ → ℕ → ℕ → ℕ → Reader Block
 inside-form n whole room blocks =
@@ -36,18 +41,18 @@ inside_is : (n whole room k blocks : ℕ) (ts : List Lexeme) → k < room → in
 inside_is n whole zero k blocks ts h = absurd (omega arith)
 inside_is n whole (suc room) k blocks ts h = ap (λ (m : ℕ). inside-form n whole m blocks ts) (let e : room ≡ suc room - 1 = omega arith in e)
 
-pub inside-let : (whole room k blocks : ℕ) (c d : Cursor) → k < room → Past Keyword (codes "let") c d → inside_of (end_of c) whole room blocks (ahead c) ≡ let_of (end_of c) (side_of (end_of c) whole blocks) (inside_of (end_of c) whole (room - 1) blocks) (ahead d)
-inside-let whole room k blocks c d h p =
-    inside_is (end_of c) whole room k blocks (ahead c) h
-    ∙ on-met Keyword (codes "let") c d (λ _. let_of (end_of c) (side_of (end_of c) whole blocks) (inside_of (end_of c) whole (room - 1) blocks)) (on (end_of c) Keyword (codes "print") (print_of (end_of c) (inside_of (end_of c) whole (room - 1) blocks)) (last_of (end_of c))) p
+pub inside-let : (n whole room k blocks : ℕ) (ts : List Lexeme) → k < room → starts Keyword (codes "let") ts ≡ true → inside_of n whole room blocks ts ≡ behind_word n (λ _. let_of n (side_of n whole blocks) (inside_of n whole (room - 1) blocks)) ts
+inside-let n whole room k blocks ts h e =
+    inside_is n whole room k blocks ts h
+    ∙ on-met n Keyword (codes "let") ts (λ _. let_of n (side_of n whole blocks) (inside_of n whole (room - 1) blocks)) (on n Keyword (codes "print") (print_of n (inside_of n whole (room - 1) blocks)) (last_of n)) e
 
-inside-other : (whole room k blocks : ℕ) (c : Cursor) → k < room → starts Keyword (codes "let") (ahead c) ≡ false → inside_of (end_of c) whole room blocks (ahead c) ≡ on (end_of c) Keyword (codes "print") (print_of (end_of c) (inside_of (end_of c) whole (room - 1) blocks)) (last_of (end_of c)) (ahead c)
-inside-other whole room k blocks c h e =
-    inside_is (end_of c) whole room k blocks (ahead c) h
-    ∙ on-other Keyword (codes "let") c (λ _. let_of (end_of c) (side_of (end_of c) whole blocks) (inside_of (end_of c) whole (room - 1) blocks)) (on (end_of c) Keyword (codes "print") (print_of (end_of c) (inside_of (end_of c) whole (room - 1) blocks)) (last_of (end_of c))) e
+inside-other : (n whole room k blocks : ℕ) (ts : List Lexeme) → k < room → starts Keyword (codes "let") ts ≡ false → inside_of n whole room blocks ts ≡ on n Keyword (codes "print") (print_of n (inside_of n whole (room - 1) blocks)) (last_of n) ts
+inside-other n whole room k blocks ts h e =
+    inside_is n whole room k blocks ts h
+    ∙ on-other n Keyword (codes "let") ts (λ _. let_of n (side_of n whole blocks) (inside_of n whole (room - 1) blocks)) (on n Keyword (codes "print") (print_of n (inside_of n whole (room - 1) blocks)) (last_of n)) e
 
-pub inside-print : (whole room k blocks : ℕ) (c d : Cursor) → k < room → starts Keyword (codes "let") (ahead c) ≡ false → Past Keyword (codes "print") c d → inside_of (end_of c) whole room blocks (ahead c) ≡ print_of (end_of c) (inside_of (end_of c) whole (room - 1) blocks) c.place (ahead d)
-inside-print whole room k blocks c d h e p = inside-other whole room k blocks c h e ∙ on-met Keyword (codes "print") c d (print_of (end_of c) (inside_of (end_of c) whole (room - 1) blocks)) (last_of (end_of c)) p
+pub inside-print : (n whole room k blocks : ℕ) (ts : List Lexeme) → k < room → starts Keyword (codes "let") ts ≡ false → starts Keyword (codes "print") ts ≡ true → inside_of n whole room blocks ts ≡ behind_word n (print_of n (inside_of n whole (room - 1) blocks)) ts
+inside-print n whole room k blocks ts h e f = inside-other n whole room k blocks ts h e ∙ on-met n Keyword (codes "print") ts (print_of n (inside_of n whole (room - 1) blocks)) (last_of n) f
 
-pub inside-last : (whole room k blocks : ℕ) (c : Cursor) → k < room → starts Keyword (codes "let") (ahead c) ≡ false → starts Keyword (codes "print") (ahead c) ≡ false → inside_of (end_of c) whole room blocks (ahead c) ≡ last_of (end_of c) (ahead c)
-inside-last whole room k blocks c h e f = inside-other whole room k blocks c h e ∙ on-other Keyword (codes "print") c (print_of (end_of c) (inside_of (end_of c) whole (room - 1) blocks)) (last_of (end_of c)) f
+pub inside-last : (n whole room k blocks : ℕ) (ts : List Lexeme) → k < room → starts Keyword (codes "let") ts ≡ false → starts Keyword (codes "print") ts ≡ false → inside_of n whole room blocks ts ≡ last_of n ts
+inside-last n whole room k blocks ts h e f = inside-other n whole room k blocks ts h e ∙ on-other n Keyword (codes "print") ts (print_of n (inside_of n whole (room - 1) blocks)) (last_of n) f

@@ -1,66 +1,80 @@
 -- A right side by the form that its first token begins.
-use Rattle.std.proofs.Common.{◌≡◌, ℕ, Bool, true, false, List, Some, None, codes, Option, refl, ap, ◌∙◌}
+use Rattle.std.proofs.Common.{◌≡◌, ℕ, Bool, true, false, eqb, List, [], ◌∷◌, Some, None, Option, cond, refl, sym, ap, ◌∙◌, rules}
+use Rattle.std.proofs.lemmas.Bool.Decides.{Decides-like, same_from_decides}
+use Rattle.std.proofs.lemmas.Slice.Eq.{IsBytesEq, compares_Decides}
+use Rattle.std.specs.Map.{lookup}
 use mathlib.Core.Path.{fun_ext}
-use Rattle.lexing.specs.declared.token.Kind.TheVariants.{Keyword}
+use Rattle.lexing.specs.declared.token.Kind.TheVariants.{End, Name, Keyword, Numeral, Mark}
+use Rattle.lexing.specs.declared.token.Kind.{Kind}
+use Rattle.lexing.specs.Numbers.{kind_number}
 use Rattle.lexing.specs.Tokens.{same_bytes}
+use Rattle.lexing.specs.Texts.{at_end}
+use borrow.Author.Tests.{both_ways}
 use Rattle.language.specs.Nesting.{most_lists}
 use Rattle.language.specs.Syntax.{Right, atom}
 use Rattle.language.specs.Reading.{Answer, Reader, then, give, starts, is_kind, atom_of, type_of, operands, nil_of, cons_of, call_of, if_of, region_of, case_of}
-use Rattle.draft.specs.declared.command.Operator.{Operator}
-use Rattle.draft.specs.declared.command.Operator.TheVariants.{Add, Sub, Mul, Div, Rem, Eq, Lt}
 use Rattle.draft.specs.Items.{operator}
 use Rattle.reading.specs.declared.head.Head.{Head}
-use Rattle.reading.specs.declared.head.Head.TheVariants.{Operation, Nil, Cons, Call, If, Region, Case, Other}
+use Rattle.reading.specs.declared.head.Head.TheVariants.{Operation, Nil, Cons, Call, If, Region, Case}
 use Rattle.reading.specs.declared.cursor.Cursor.{Cursor}
 use Rattle.reading.specs.Cursors.{token_of, ahead, end_of}
-use Rattle.reading.specs.Heads.{head_word, head_of}
+use Rattle.reading.specs.Heads.{words, head_word, head_of}
 use Rattle.reading.specs.Parts.{behind_word, side_of, nested_of}
-use Rattle.reading.proofs.Steps.{starts_is, test}
+use Rattle.reading.proofs.Steps.{starts-end, starts-more, test}
 
-abbrev pub side_by : ℕ → ℕ → ℕ → Head → Reader Right
-side_by n whole blocks (Operation o) = behind_word n (operands n (operator o))
-side_by n whole blocks Nil = behind_word n (nil_of n (type_of n most_lists))
-side_by n whole blocks Cons = behind_word n (cons_of n)
-side_by n whole blocks Call = behind_word n (call_of n whole)
-side_by n whole blocks If = behind_word n (if_of n (nested_of n whole blocks))
-side_by n whole blocks Region = behind_word n (region_of n (nested_of n whole blocks))
-side_by n whole blocks Case = behind_word n (case_of n (nested_of n whole blocks))
-side_by n whole blocks Other = λ ts. then (atom_of n ts) λ a. give (atom a)
+-- a right side by the form that its word names, or an atom
+abbrev pub side_by : ℕ → ℕ → ℕ → Option Head → Reader Right
+side_by n whole blocks (Some (Operation o)) = behind_word n (operands n (operator o))
+side_by n whole blocks (Some Nil) = behind_word n (nil_of n (type_of n most_lists))
+side_by n whole blocks (Some Cons) = behind_word n (cons_of n)
+side_by n whole blocks (Some Call) = behind_word n (call_of n whole)
+side_by n whole blocks (Some If) = behind_word n (if_of n (nested_of n whole blocks))
+side_by n whole blocks (Some Region) = behind_word n (region_of n (nested_of n whole blocks))
+side_by n whole blocks (Some Case) = behind_word n (case_of n (nested_of n whole blocks))
+side_by n whole blocks None = λ ts. then (atom_of n ts) λ a. give (atom a)
 
-abbrev nest : (Head → Answer Right) → Bool → Bool → Bool → Bool → Bool → Bool → Bool → Bool → Bool → Bool → Bool → Bool → Bool → Answer Right
-nest f b1 b2 b3 b4 b5 b6 b7 b8 b9 b10 b11 b12 b13 = elim b1 [ true ↦ f (Operation Add) | false ↦ elim b2 [ true ↦ f (Operation Sub) | false ↦ elim b3 [ true ↦ f (Operation Mul) | false ↦ elim b4 [ true ↦ f (Operation Div) | false ↦ elim b5 [ true ↦ f (Operation Rem) | false ↦ elim b6 [ true ↦ f (Operation Eq) | false ↦ elim b7 [ true ↦ f (Operation Lt) | false ↦ elim b8 [ true ↦ f Nil | false ↦ elim b9 [ true ↦ f Cons | false ↦ elim b10 [ true ↦ f Call | false ↦ elim b11 [ true ↦ f If | false ↦ elim b12 [ true ↦ f Region | false ↦ elim b13 [ true ↦ f Case | false ↦ f Other ] ] ] ] ] ] ] ] ] ] ] ] ]
+-- the words tried one after the other are a look-up
+abbrev tried : (List ℕ → Bool) → (Option Head → Answer Right) → List (List ℕ × Head) → Answer Right
+tried p f [] = f None
+tried p f ((w, h) ∷ ws) = elim (p w) [ true ↦ f (Some h) | false ↦ tried p f ws ]
 
-abbrev op_by : Bool → Bool → Bool → Bool → Bool → Bool → Bool → Option Operator
-op_by b1 b2 b3 b4 b5 b6 b7 = elim b1 [ true ↦ Some Add | false ↦ elim b2 [ true ↦ Some Sub | false ↦ elim b3 [ true ↦ Some Mul | false ↦ elim b4 [ true ↦ Some Div | false ↦ elim b5 [ true ↦ Some Rem | false ↦ elim b6 [ true ↦ Some Eq | false ↦ elim b7 [ true ↦ Some Lt | false ↦ None ] ] ] ] ] ] ]
+tried_is : (p : List ℕ → Bool) (f : Option Head → Answer Right) (ws : List (List ℕ × Head)) → tried p f ws ≡ f (lookup p ws)
+tried_is p f [] = refl
+tried_is p f ((w, h) ∷ ws) = by (p w) (tried_is p f ws)
+  where
+    by : (v : Bool) → tried p f ws ≡ f (lookup p ws) → elim v as (λ _. Answer Right) [ true ↦ f (Some h) | false ↦ tried p f ws ] ≡ f (cond v (Some h) (lookup p ws))
+    by true e = refl
+    by false e = e
 
-abbrev form_by : Bool → Bool → Bool → Bool → Bool → Bool → Head
-form_by b8 b9 b10 b11 b12 b13 = elim b8 [ true ↦ Nil | false ↦ elim b9 [ true ↦ Cons | false ↦ elim b10 [ true ↦ Call | false ↦ elim b11 [ true ↦ If | false ↦ elim b12 [ true ↦ Region | false ↦ elim b13 [ true ↦ Case | false ↦ Other ] ] ] ] ] ]
+same_bytes-swaps : (v w : List ℕ) → same_bytes v w ≡ same_bytes w v
+same_bytes-swaps v w =
+    let h : IsBytesEq same_bytes = search rules in
+    same_from_decides _ _ (compares_Decides same_bytes h v w) (Decides-like _ sym sym (compares_Decides same_bytes h w v))
 
-abbrev head_by : Bool → Bool → Bool → Bool → Bool → Bool → Bool → Bool → Bool → Bool → Bool → Bool → Bool → Head
-head_by b1 b2 b3 b4 b5 b6 b7 b8 b9 b10 b11 b12 b13 = elim (op_by b1 b2 b3 b4 b5 b6 b7) [ Some o ↦ Operation o | None ↦ form_by b8 b9 b10 b11 b12 b13 ]
+not_keyword : (k : Kind) → at_end k ≡ true → eqb (kind_number k) 2 ≡ false
+not_keyword End h = refl
+not_keyword Name h = absurd (both_ways false refl h)
+not_keyword Keyword h = absurd (both_ways false refl h)
+not_keyword Numeral h = absurd (both_ways false refl h)
+not_keyword Mark h = absurd (both_ways false refl h)
 
-split : (f : Head → Answer Right) (b1 b2 b3 b4 b5 b6 b7 b8 b9 b10 b11 b12 b13 : Bool) → nest f b1 b2 b3 b4 b5 b6 b7 b8 b9 b10 b11 b12 b13 ≡ f (head_by b1 b2 b3 b4 b5 b6 b7 b8 b9 b10 b11 b12 b13)
-split f true b2 b3 b4 b5 b6 b7 b8 b9 b10 b11 b12 b13 = refl
-split f false true b3 b4 b5 b6 b7 b8 b9 b10 b11 b12 b13 = refl
-split f false false true b4 b5 b6 b7 b8 b9 b10 b11 b12 b13 = refl
-split f false false false true b5 b6 b7 b8 b9 b10 b11 b12 b13 = refl
-split f false false false false true b6 b7 b8 b9 b10 b11 b12 b13 = refl
-split f false false false false false true b7 b8 b9 b10 b11 b12 b13 = refl
-split f false false false false false false true b8 b9 b10 b11 b12 b13 = refl
-split f false false false false false false false true b9 b10 b11 b12 b13 = refl
-split f false false false false false false false false true b10 b11 b12 b13 = refl
-split f false false false false false false false false false true b11 b12 b13 = refl
-split f false false false false false false false false false false true b12 b13 = refl
-split f false false false false false false false false false false false true b13 = refl
-split f false false false false false false false false false false false false true = refl
-split f false false false false false false false false false false false false false = refl
+head_is : (k : Bool) (w : List ℕ) → lookup (λ v. elim k as (λ _. Bool) [ true ↦ same_bytes w v | false ↦ false ]) words ≡ elim k as (λ _. Option Head) [ true ↦ head_word w | false ↦ None ]
+head_is true w = ap (λ (p : List ℕ → Bool). lookup p words) (fun_ext (λ v. same_bytes-swaps w v))
+head_is false w = refl
 
-tested : (f : Head → Answer Right) (k : Bool) (w : List ℕ) → nest f (elim k as (λ _. Bool) [ true ↦ same_bytes w (codes "add") | false ↦ false ]) (elim k as (λ _. Bool) [ true ↦ same_bytes w (codes "sub") | false ↦ false ]) (elim k as (λ _. Bool) [ true ↦ same_bytes w (codes "mul") | false ↦ false ]) (elim k as (λ _. Bool) [ true ↦ same_bytes w (codes "div") | false ↦ false ]) (elim k as (λ _. Bool) [ true ↦ same_bytes w (codes "rem") | false ↦ false ]) (elim k as (λ _. Bool) [ true ↦ same_bytes w (codes "eq") | false ↦ false ]) (elim k as (λ _. Bool) [ true ↦ same_bytes w (codes "lt") | false ↦ false ]) (elim k as (λ _. Bool) [ true ↦ same_bytes w (codes "nil") | false ↦ false ]) (elim k as (λ _. Bool) [ true ↦ same_bytes w (codes "cons") | false ↦ false ]) (elim k as (λ _. Bool) [ true ↦ same_bytes w (codes "call") | false ↦ false ]) (elim k as (λ _. Bool) [ true ↦ same_bytes w (codes "if") | false ↦ false ]) (elim k as (λ _. Bool) [ true ↦ same_bytes w (codes "region") | false ↦ false ]) (elim k as (λ _. Bool) [ true ↦ same_bytes w (codes "case") | false ↦ false ]) ≡ f (elim k as (λ _. Head) [ true ↦ head_word w | false ↦ Other ])
-tested f true w = split f (same_bytes w (codes "add")) (same_bytes w (codes "sub")) (same_bytes w (codes "mul")) (same_bytes w (codes "div")) (same_bytes w (codes "rem")) (same_bytes w (codes "eq")) (same_bytes w (codes "lt")) (same_bytes w (codes "nil")) (same_bytes w (codes "cons")) (same_bytes w (codes "call")) (same_bytes w (codes "if")) (same_bytes w (codes "region")) (same_bytes w (codes "case"))
-tested f false w = refl
+-- the tests of the words, by the cursor's token
+tests : (c : Cursor) → lookup (λ w. starts Keyword w (ahead c)) words ≡ head_of (token_of c)
+tests c = by (at_end c.kind) refl
+  where
+    by : (v : Bool) → at_end c.kind ≡ v → lookup (λ w. starts Keyword w (ahead c)) words ≡ head_of (token_of c)
+    by true k =
+        let e : (λ (w : List ℕ). starts Keyword w (ahead c)) ≡ (λ w. false) = fun_ext (λ w. starts-end Keyword w c k) in
+        ap (λ (p : List ℕ → Bool). lookup p words) e ∙ sym (ap (λ (b : Bool). elim b as (λ _. Option Head) [ true ↦ head_word c.bytes.now | false ↦ None ]) (not_keyword c.kind k))
+    by false k =
+        let e : (λ (w : List ℕ). starts Keyword w (ahead c)) ≡ (λ w. test Keyword w (token_of c)) = fun_ext (λ w. starts-more Keyword w c k) in
+        ap (λ (p : List ℕ → Bool). lookup p words) e ∙ head_is (is_kind Keyword (token_of c)) c.bytes.now
 
-pub side_is : (c : Cursor) (whole blocks : ℕ) → side_of (end_of c) whole blocks (ahead c) ≡ side_by (end_of c) whole blocks (head_of (token_of c)) (ahead c)
-side_is c whole blocks =
-    let f : Head → Answer Right = λ h. side_by (end_of c) whole blocks h (ahead c) in
-    let e : (λ (w : List ℕ). starts Keyword w (ahead c)) ≡ (λ (w : List ℕ). test Keyword w (token_of c)) = fun_ext (λ w. starts_is Keyword w c refl) in
-    ap (λ (g : List ℕ → Bool). nest f (g (codes "add")) (g (codes "sub")) (g (codes "mul")) (g (codes "div")) (g (codes "rem")) (g (codes "eq")) (g (codes "lt")) (g (codes "nil")) (g (codes "cons")) (g (codes "call")) (g (codes "if")) (g (codes "region")) (g (codes "case"))) e ∙ tested f (is_kind Keyword (token_of c)) c.bytes.now
+pub side_is : (c : Cursor) (whole blocks : ℕ) (h : Option Head) → head_of (token_of c) ≡ h → side_of (end_of c) whole blocks (ahead c) ≡ side_by (end_of c) whole blocks h (ahead c)
+side_is c whole blocks h q =
+    let f : Option Head → Answer Right = λ h. side_by (end_of c) whole blocks h (ahead c) in
+    tried_is (λ w. starts Keyword w (ahead c)) f words ∙ ap f (tests c ∙ q)

@@ -46,6 +46,7 @@ pub record Placed (offset : ℕ) (s text : List ℕ) (t : Lexeme) (rest : List �
   pub stands : rest ≡ drop (behind t) text
   pub reaches : behind t + length rest ≡ offset + length s
   pub ends : at_end t.kind ≡ true → t.place ≡ offset + length s
+  pub empty : at_end t.kind ≡ true → length rest ≡ 0
 
 abbrev snd_of : Result (Lexeme × List ℕ) Refusal → List ℕ
 snd_of (Ok (t, rest)) = rest
@@ -65,16 +66,21 @@ placed_by offset s text (Ok k) t rest v st a b =
     let kk : t.kind ≡ k = ap (λ r. (fst_of r t).kind) (sym a) in
     let rr : rest ≡ drop (width body) body = ap snd_of (sym a) in
     let n : length t.bytes ≡ width body = ap length y ∙ length-take-le (width body) body (width-within body) in
+    let none : at_end t.kind ≡ true → (length body ≡ 0) × (length t.bytes ≡ 0) × (length rest ≡ 0) = λ h.
+    let z : length body ≡ 0 = end_empty body k (sym v) (ap at_end (sym kk) ∙ h) in
+    let x : length t.bytes ≡ 0 = let w = width-within body in omega arith in
+    let r : length rest ≡ 0 = ap length rr ∙ length-drop (width body) body ∙ (omega arith) in
+    (z, x, r) in
     let d : body ≡ drop t.place text = ap (drop (run blank s)) st ∙ drop-drop (run blank s) offset text ∙ ap (λ m. drop m text) (sym p) in
     record {
       bytes = y ∙ ap (λ m. take m body) (sym n) ∙ ap (take (length t.bytes)) d;
       stands = rr ∙ ap (λ m. drop m body) (sym n) ∙ ap (drop (length t.bytes)) d ∙ drop-drop (length t.bytes) t.place text;
       reaches = b;
       ends = λ h.
-          let z : length body ≡ 0 = end_empty body k (sym v) (ap at_end (sym kk) ∙ h) in
-          let x : length t.bytes ≡ 0 = let w = width-within body in omega arith in
-          let r : length rest ≡ 0 = ap length rr ∙ length-drop (width body) body ∙ (omega arith) in
+          let x = (none h).1 in
+          let r = (none h).2 in
           omega arith;
+      empty = λ h. (none h).2;
     }
 
 pub placed : (offset : ℕ) (s text : List ℕ) (t : Lexeme) (rest : List ℕ) → s ≡ drop offset text → token_at offset s ≡ Ok (t, rest) → Placed offset s text t rest

@@ -1,154 +1,167 @@
 -- One step of a cursor, and what its token is to the grammar.
-use Rattle.std.proofs.Common.{◌≡◌, ℕ, suc, Bool, true, false, eqb, List, [], ◌∷◌, length, ℤ, Some, None, Ok, Err, codes, Option, Result, sym, refl, ap, ◌∙◌, subst, arith, MatchResult}
+use Rattle.std.proofs.Common.{◌≡◌, ℕ, suc, ◌<◌, ◌≤◌, Bool, true, false, cond, eqb, List, [], ◌∷◌, length, is_ok, ℤ, is_some, Some, None, Ok, Err, Option, Result, sym, refl, ap, ◌∙◌, arith}
 use borrow.Author.Tests.{both_ways}
 use Rattle.std.proofs.lemmas.Bool.Decides.{nat_tests}
 use Rattle.lexing.specs.declared.token.Kind.{Kind}
 use Rattle.lexing.specs.declared.token.Kind.TheVariants.{End, Name, Keyword, Numeral, Mark}
-use Rattle.lexing.specs.declared.fault.Fault.{Fault}
 use Rattle.lexing.specs.Numbers.{kind_number}
-use Rattle.lexing.specs.Numerals.{number_of}
 use Rattle.lexing.specs.Tokens.{Lexeme, token_at, same_bytes}
 use Rattle.lexing.specs.Texts.{at_end, behind}
 use Rattle.language.specs.Verdict.{Refused}
 use Rattle.language.specs.Syntax.{Ident, Atom, var, num}
-use Rattle.language.specs.Reading.{Reader, then, on, give, refuse, starts, here, rest, mark_of, is_kind, one, name_in, number_in, atom_in, name_of}
+use Rattle.language.specs.Reading.{Reader, on, refuse, starts, here, rest, is_kind, one, name_in, number_in, atom_in}
 use Rattle.reading.specs.declared.cursor.Cursor.{Cursor}
-use Rattle.reading.specs.Cursors.{token_of, end_of, tokens_left, ahead, Left, Sound, Next, Past}
-use Rattle.reading.proofs.Places.{placed}
-use Rattle.reading.proofs.Walks.{first}
+use Rattle.reading.specs.Standing.{walk, granted, tokens_left, tokens_at, Left, Sound}
+use Rattle.reading.specs.Cursors.{token_of, end_of, ahead, Skips, Next}
+use Rattle.reading.specs.Parts.{behind_word}
+use Rattle.reading.proofs.Places.{Placed, placed}
+use Rattle.reading.proofs.Walks.{First, first, no_tokens}
 
--- the tokens ahead, at the end and before it
-pub ahead-end : (c : Cursor) → at_end c.kind ≡ true → ahead c ≡ []
-unfolding ahead
-ahead-end c k = ap (λ (v : Bool). elim v as (λ _. List Lexeme) [ true ↦ [] | false ↦ token_of c ∷ tokens_left (behind (token_of c)) c.rest.now ]) k
+-- the tokens from one on, at the end and before it
+pub tokens-end : (t : Lexeme) (rest : List ℕ) → at_end t.kind ≡ true → tokens_at t rest ≡ []
+unfolding tokens_at
+tokens-end t rest k = ap (λ (v : Bool). elim v as (λ _. List Lexeme) [ true ↦ [] | false ↦ t ∷ tokens_left (behind t) rest ]) k
 
-pub ahead_more : (c : Cursor) → at_end c.kind ≡ false → ahead c ≡ token_of c ∷ tokens_left (behind (token_of c)) c.rest.now
-unfolding ahead
-ahead_more c k = ap (λ (v : Bool). elim v as (λ _. List Lexeme) [ true ↦ [] | false ↦ token_of c ∷ tokens_left (behind (token_of c)) c.rest.now ]) k
+pub tokens-more : (t : Lexeme) (rest : List ℕ) → at_end t.kind ≡ false → tokens_at t rest ≡ t ∷ tokens_left (behind t) rest
+unfolding tokens_at
+tokens-more t rest k = ap (λ (v : Bool). elim v as (λ _. List Lexeme) [ true ↦ [] | false ↦ t ∷ tokens_left (behind t) rest ]) k
 
-ahead-by : (c : Cursor) (v : Bool) (ts : List Lexeme) → at_end c.kind ≡ v → (at_end c.kind ≡ true → ts ≡ []) → (at_end c.kind ≡ false → ts ≡ token_of c ∷ tokens_left (behind (token_of c)) c.rest.now) → ahead c ≡ ts
-ahead-by c true ts k f g = ahead-end c k ∙ sym (f k)
-ahead-by c false ts k f g = ahead_more c k ∙ sym (g k)
+tokens-by : (t : Lexeme) (rest : List ℕ) (v : Bool) (ts : List Lexeme) → at_end t.kind ≡ v → (at_end t.kind ≡ true → ts ≡ []) → (at_end t.kind ≡ false → ts ≡ t ∷ tokens_left (behind t) rest) → tokens_at t rest ≡ ts
+tokens-by t rest true ts k f g = tokens-end t rest k ∙ sym (f k)
+tokens-by t rest false ts k f g = tokens-more t rest k ∙ sym (g k)
 
--- a cursor at the first token of what is left
-pub arrive : (c : Cursor) (s : List ℕ) (offset : ℕ) → Left c.text.now s offset → token_at offset s ≡ Ok (token_of c, c.rest.now) → Sound c × (ahead c ≡ tokens_left offset s)
-arrive c s offset l e =
-    let p = placed offset s c.text.now (token_of c) c.rest.now l.stands e in
-    let f = first offset s (token_of c) c.rest.now e l.passes in (
+-- the first token of what is left
+pub arrive : (text s : List ℕ) (offset : ℕ) (t : Lexeme) (rest : List ℕ) → Left text s offset → token_at offset s ≡ Ok (t, rest) → Sound text t rest × (tokens_at t rest ≡ tokens_left offset s)
+arrive text s offset t rest l e =
+    let p = placed offset s text t rest l.stands e in
+    let f = first offset s t rest e l.passes in (
       record {
-        short = l.short;
         bytes = p.bytes;
-        reaches = p.reaches ∙ l.reaches;
         ends = λ h. p.ends h ∙ l.reaches;
-        left = λ k. record { short = l.short; stands = p.stands; reaches = p.reaches ∙ l.reaches; passes = f.passes k };
+        left = record { short = l.short; stands = p.stands; reaches = p.reaches ∙ l.reaches; passes = passes p f (at_end t.kind) refl };
       },
-      ahead-by c (at_end c.kind) (tokens_left offset s) refl f.end f.more,
+      tokens-by t rest (at_end t.kind) (tokens_left offset s) refl f.end f.more,
     )
+  where
+    passes : Placed offset s text t rest → First offset s t rest → (v : Bool) → at_end t.kind ≡ v → is_ok (walk (behind t) rest) ≡ true
+    passes p f true k = ap is_ok (no_tokens (behind t) rest (p.empty k))
+    passes p f false k = f.passes k
 
--- the cursor behind a token
-pub step : (c d : Cursor) → at_end c.kind ≡ false → Sound d → d.text.now ≡ c.text.now → ahead d ≡ tokens_left (behind (token_of c)) c.rest.now → Next c d × (ahead c ≡ token_of c ∷ ahead d)
-step c d k s t e =
-    let a : ahead c ≡ token_of c ∷ ahead d = ahead_more c k ∙ ap (λ l. token_of c ∷ l) (sym e) in
-    let n : length (ahead c) ≡ suc (length (ahead d)) = ap length a in
-    (record { sound = s; text = t; nearer = omega arith }, a)
+-- what is left behind a token is what its tokens go on with
+pub goes_on : (text : List ℕ) (t : Lexeme) (s : List ℕ) → Sound text t s → rest (tokens_at t s) ≡ tokens_left (behind t) s
+unfolding tokens_left
+goes_on text t s h = by (at_end t.kind) refl
+  where
+    by : (v : Bool) → at_end t.kind ≡ v → rest (tokens_at t s) ≡ tokens_left (behind t) s
+    by true k =
+        let e = h.ends k in
+        let r = h.left.reaches in
+        ap rest (tokens-end t s k) ∙ sym (ap granted (no_tokens (behind t) s (omega arith)))
+    by false k = ap rest (tokens-more t s k)
 
--- two steps are one
-pub next-next : {c d e : Cursor} → Next c d → Next d e → Next c e
-next-next p q = let a = p.nearer in let b = q.nearer in record { sound = q.sound; text = q.text ∙ p.text; nearer = omega arith }
+pub rest-shorter : (ts : List Lexeme) → 0 < length ts → length ts ≡ suc (length (rest ts))
+rest-shorter [] h = absurd (omega arith)
+rest-shorter (t ∷ ts) h = refl
+
+pub rest-less : (ts : List Lexeme) → length (rest ts) ≤ length ts
+rest-less [] = omega arith
+rest-less (t ∷ ts) = omega arith
+
+pub rest-longer : (ts : List Lexeme) (n : ℕ) → length (rest ts) ≡ n → 0 < n → length ts ≡ suc n
+rest-longer [] n e h = absurd (omega arith)
+rest-longer (t ∷ ts) n e h = ap suc e
+
+pub starts-some : (k : Kind) (w : List ℕ) (ts : List Lexeme) → starts k w ts ≡ true → 0 < length ts
+starts-some k w [] e = absurd (both_ways false refl e)
+starts-some k w (t ∷ ts) e = omega arith
+
+-- a step over a word that stands there, and over any token
+pub met : {c d : Cursor} (k : Kind) (w : List ℕ) → starts k w (ahead c) ≡ true → Skips c d → Next c d
+met {c} {d} k w e s =
+    let n = rest-shorter (ahead c) (starts-some k w (ahead c) e) in
+    let m = ap length s.rest in
+    record { like = s.like; nearer = omega arith }
+
+pub step : {c d : Cursor} → at_end c.kind ≡ false → Skips c d → Next c d
+step {c} {d} k s =
+    let m = ap length (tokens-more (token_of c) c.rest.now k) in
+    let r = ap length (sym (ap rest (tokens-more (token_of c) c.rest.now k)) ∙ s.rest) in
+    record { like = s.like; nearer = omega arith }
 
 -- the place of the next token
-pub here-is : (c : Cursor) → Sound c → here (end_of c) (ahead c) ≡ c.place
-here-is c s = here_by (at_end c.kind) refl
+pub here-is : (c : Cursor) → here (end_of c) (ahead c) ≡ c.place
+here-is c = here_by (at_end c.kind) refl
   where
     here_by : (v : Bool) → at_end c.kind ≡ v → here (end_of c) (ahead c) ≡ c.place
-    here_by true k = ap (here (end_of c)) (ahead-end c k) ∙ sym (s.ends k)
-    here_by false k = ap (here (end_of c)) (ahead_more c k)
+    here_by true k = ap (here (end_of c)) (tokens-end (token_of c) c.rest.now k) ∙ sym (c.sound.ends k)
+    here_by false k = ap (here (end_of c)) (tokens-more (token_of c) c.rest.now k)
 
 -- a refusal of the next token
-pub refuse-is : {A : Type 0} (c : Cursor) → Sound c → refuse {A = A} (end_of c) 6 (ahead c) ≡ Err (record { number = 6; place = c.place })
-refuse-is {A} c s = ap (λ p. Err (record { number = 6; place = p })) (here-is c s)
+pub refuse-is : {A : Type 0} (c : Cursor) → refuse {A = A} (end_of c) 6 (ahead c) ≡ Err (record { number = 6; place = c.place })
+refuse-is {A} c = ap (λ p. Err (record { number = 6; place = p })) (here-is c)
 
 abbrev pub test : Kind → List ℕ → Lexeme → Bool
 test k w t = elim (is_kind k t) [ true ↦ same_bytes t.bytes w | false ↦ false ]
 
-other_end : (k j : Kind) → at_end k ≡ false → at_end j ≡ true → eqb (kind_number j) (kind_number k) ≡ false
-other_end End j h e = absurd (both_ways true h refl)
-other_end Name End h e = refl
-other_end Name Name h e = absurd (both_ways false refl e)
-other_end Name Keyword h e = absurd (both_ways false refl e)
-other_end Name Numeral h e = absurd (both_ways false refl e)
-other_end Name Mark h e = absurd (both_ways false refl e)
-other_end Keyword End h e = refl
-other_end Keyword Name h e = absurd (both_ways false refl e)
-other_end Keyword Keyword h e = absurd (both_ways false refl e)
-other_end Keyword Numeral h e = absurd (both_ways false refl e)
-other_end Keyword Mark h e = absurd (both_ways false refl e)
-other_end Numeral End h e = refl
-other_end Numeral Name h e = absurd (both_ways false refl e)
-other_end Numeral Keyword h e = absurd (both_ways false refl e)
-other_end Numeral Numeral h e = absurd (both_ways false refl e)
-other_end Numeral Mark h e = absurd (both_ways false refl e)
-other_end Mark End h e = refl
-other_end Mark Name h e = absurd (both_ways false refl e)
-other_end Mark Keyword h e = absurd (both_ways false refl e)
-other_end Mark Numeral h e = absurd (both_ways false refl e)
-other_end Mark Mark h e = absurd (both_ways false refl e)
+-- whether a keyword or a mark stands there is told by the cursor's token, and none at the end
+pub starts-end : (k : Kind) (w : List ℕ) (c : Cursor) → at_end c.kind ≡ true → starts k w (ahead c) ≡ false
+starts-end k w c e = ap (starts k w) (tokens-end (token_of c) c.rest.now e)
 
--- whether a keyword or a mark stands there is told by the cursor's token
-pub starts_is : (k : Kind) (w : List ℕ) (c : Cursor) → at_end k ≡ false → starts k w (ahead c) ≡ test k w (token_of c)
-starts_is k w c h = by (at_end c.kind) refl
-  where
-    by : (v : Bool) → at_end c.kind ≡ v → starts k w (ahead c) ≡ test k w (token_of c)
-    by true e = ap (starts k w) (ahead-end c e) ∙ sym (ap (λ (v : Bool). elim v as (λ _. Bool) [ true ↦ same_bytes c.bytes.now w | false ↦ false ]) (other_end k c.kind h e))
-    by false e = ap (starts k w) (ahead_more c e)
-
--- a word that stands there is not the end
-pub starts_more : (k : Kind) (w : List ℕ) (c : Cursor) → starts k w (ahead c) ≡ true → at_end c.kind ≡ false
-starts_more k w c t = by (at_end c.kind) refl
-  where
-    by : (v : Bool) → at_end c.kind ≡ v → at_end c.kind ≡ false
-    by true e = absurd (both_ways (starts k w (ahead c)) (ap (starts k w) (ahead-end c e)) t)
-    by false e = e
-
--- behind a word that stands there
-pub past : (k : Kind) (w : List ℕ) (c d : Cursor) → Sound c → starts k w (ahead c) ≡ true → ahead c ≡ token_of c ∷ ahead d → Past k w c d
-past k w c d s t a = record { stands = t; place = here-is c s; rest = ap rest a }
+pub starts-more : (k : Kind) (w : List ℕ) (c : Cursor) → at_end c.kind ≡ false → starts k w (ahead c) ≡ test k w (token_of c)
+starts-more k w c e = ap (starts k w) (tokens-more (token_of c) c.rest.now e)
 
 -- one way or the other of a choice by a word
-pub on-met : {A : Type 0} (k : Kind) (w : List ℕ) (c d : Cursor) (met : ℕ → Reader A) (other : Reader A) → Past k w c d → on (end_of c) k w met other (ahead c) ≡ met c.place (ahead d)
-on-met {A} k w c d met other p =
-    ap (λ (v : Bool). elim v as (λ _. _) [ true ↦ met (here (end_of c) (ahead c)) (rest (ahead c)) | false ↦ other (ahead c) ]) p.stands
-    ∙ ap (λ (q : ℕ). met q (rest (ahead c))) p.place ∙ ap (met c.place) p.rest
+pub on-met : {A : Type 0} (n : ℕ) (k : Kind) (w : List ℕ) (ts : List Lexeme) (way : ℕ → Reader A) (other : Reader A) → starts k w ts ≡ true → on n k w way other ts ≡ behind_word n way ts
+on-met {A} n k w ts way other e = ap (λ (v : Bool). elim v as (λ _. _) [ true ↦ way (here n ts) (rest ts) | false ↦ other ts ]) e
 
-pub on-other : {A : Type 0} (k : Kind) (w : List ℕ) (c : Cursor) (met : ℕ → Reader A) (other : Reader A) → starts k w (ahead c) ≡ false → on (end_of c) k w met other (ahead c) ≡ other (ahead c)
-on-other {A} k w c met other e =
-    ap (λ (v : Bool). elim v as (λ _. _) [ true ↦ met (here (end_of c) (ahead c)) (rest (ahead c)) | false ↦ other (ahead c) ]) e
+pub on-other : {A : Type 0} (n : ℕ) (k : Kind) (w : List ℕ) (ts : List Lexeme) (way : ℕ → Reader A) (other : Reader A) → starts k w ts ≡ false → on n k w way other ts ≡ other ts
+on-other {A} n k w ts way other e = ap (λ (v : Bool). elim v as (λ _. _) [ true ↦ way (here n ts) (rest ts) | false ↦ other ts ]) e
+
+-- what is read behind the cursor's token
+pub word-is : {A : Type 0} (c d : Cursor) (f : ℕ → Reader A) → Skips c d → behind_word (end_of c) f (ahead c) ≡ f c.place (ahead d)
+word-is c d f s = ap (λ p. f p (rest (ahead c))) (here-is c) ∙ ap (f c.place) s.rest
 
 -- what the test of a keyword or a mark answers
-pub stands-met : (k : Kind) (w : List ℕ) (c : Cursor) (r : Bool) → at_end k ≡ false → kind_number c.kind ≡ kind_number k → r ≡ same_bytes c.bytes.now w → r ≡ starts k w (ahead c)
+pub stands-met : (k : Kind) (w : List ℕ) (c : Cursor) (r : Bool) → at_end c.kind ≡ false → kind_number c.kind ≡ kind_number k → r ≡ same_bytes c.bytes.now w → r ≡ starts k w (ahead c)
 stands-met k w c r h e s =
     let t : eqb (kind_number c.kind) (kind_number k) ≡ true = grind (arith, nat_tests) in
-    s ∙ sym (starts_is k w c h ∙ ap (λ (v : Bool). elim v as (λ _. Bool) [ true ↦ same_bytes c.bytes.now w | false ↦ false ]) t)
+    s ∙ sym (starts-more k w c h ∙ ap (λ (v : Bool). elim v as (λ _. Bool) [ true ↦ same_bytes c.bytes.now w | false ↦ false ]) t)
 
-pub stands-not : (k : Kind) (w : List ℕ) (c : Cursor) → at_end k ≡ false → (kind_number c.kind ≡ kind_number k → ⊥) → false ≡ starts k w (ahead c)
+kind_at : ℕ → Kind
+kind_at n = cond (eqb n 0) End (cond (eqb n 1) Name (cond (eqb n 2) Keyword (cond (eqb n 3) Numeral Mark)))
+
+back : (k : Kind) → kind_at (kind_number k) ≡ k
+unfolding kind_at
+back End = refl
+back Name = refl
+back Keyword = refl
+back Numeral = refl
+back Mark = refl
+
+-- kinds with one number are one kind
+pub one_kind : (k l : Kind) → kind_number k ≡ kind_number l → k ≡ l
+one_kind k l e = sym (back k) ∙ ap kind_at e ∙ back l
+
+pub stands-not : (k : Kind) (w : List ℕ) (c : Cursor) → at_end c.kind ≡ false → (kind_number c.kind ≡ kind_number k → ⊥) → false ≡ starts k w (ahead c)
 stands-not k w c h e =
     let t : eqb (kind_number c.kind) (kind_number k) ≡ false = grind (arith, nat_tests) in
-    sym (starts_is k w c h ∙ ap (λ (v : Bool). elim v as (λ _. Bool) [ true ↦ same_bytes c.bytes.now w | false ↦ false ]) t)
+    sym (starts-more k w c h ∙ ap (λ (v : Bool). elim v as (λ _. Bool) [ true ↦ same_bytes c.bytes.now w | false ↦ false ]) t)
 
 -- one token that is wanted, or not
-pub one-some : {A : Type 0} (wanted : Lexeme → Option A) (c d : Cursor) (x : A) → ahead c ≡ token_of c ∷ ahead d → wanted (token_of c) ≡ Some x → one (end_of c) wanted (ahead c) ≡ Ok (x, ahead d)
-one-some {A} wanted c d x a e =
-    ap (one (end_of c) wanted) a
+pub one-some : {A : Type 0} (wanted : Lexeme → Option A) (c d : Cursor) (x : A) → at_end c.kind ≡ false → Skips c d → wanted (token_of c) ≡ Some x → one (end_of c) wanted (ahead c) ≡ Ok (x, ahead d)
+one-some {A} wanted c d x k s e =
+    let m = tokens-more (token_of c) c.rest.now k in
+    ap (one (end_of c) wanted) (m ∙ ap (λ l. token_of c ∷ l) (sym (ap rest m) ∙ s.rest))
     ∙ ap (λ (o : Option A). elim o as (λ _. Result (A × List Lexeme) Refused) [ Some x ↦ Ok (x, ahead d) | None ↦ refuse (end_of c) 6 (token_of c ∷ ahead d) ]) e
 
-pub one_none : {A : Type 0} (wanted : Lexeme → Option A) (c : Cursor) → Sound c → wanted (token_of c) ≡ None → one (end_of c) wanted (ahead c) ≡ Err (record { number = 6; place = c.place })
-one_none {A} wanted c s e = by (at_end c.kind) refl
+pub one_none : {A : Type 0} (wanted : Lexeme → Option A) (c : Cursor) → wanted (token_of c) ≡ None → one (end_of c) wanted (ahead c) ≡ Err (record { number = 6; place = c.place })
+one_none {A} wanted c e = by (at_end c.kind) refl
   where
     by : (v : Bool) → at_end c.kind ≡ v → one (end_of c) wanted (ahead c) ≡ Err (record { number = 6; place = c.place })
-    by true k = ap (one (end_of c) wanted) (ahead-end c k) ∙ ap (λ (p : ℕ). Err (record { number = 6; place = p })) (sym (s.ends k))
+    by true k = ap (one (end_of c) wanted) (tokens-end (token_of c) c.rest.now k) ∙ ap (λ (p : ℕ). Err (record { number = 6; place = p })) (sym (c.sound.ends k))
     by false k =
         let ts = tokens_left (behind (token_of c)) c.rest.now in
-        ap (one (end_of c) wanted) (ahead_more c k)
+        ap (one (end_of c) wanted) (tokens-more (token_of c) c.rest.now k)
         ∙ ap (λ (o : Option A). elim o as (λ _. Result (A × List Lexeme) Refused) [ Some x ↦ Ok (x, ts) | None ↦ refuse (end_of c) 6 (token_of c ∷ ts) ]) e
 
 -- the name, the number and the atom that a token is
@@ -162,21 +175,8 @@ not_name Keyword h = refl
 not_name Numeral h = refl
 not_name Mark h = refl
 
-not_numeral : (k : Kind) → (k ≡ Numeral → ⊥) → eqb (kind_number k) 3 ≡ false
-not_numeral End h = refl
-not_numeral Name h = refl
-not_numeral Keyword h = refl
-not_numeral Numeral h = absurd (h refl)
-not_numeral Mark h = refl
-
 pub unnamed : (t : Lexeme) → (t.kind ≡ Name → ⊥) → name_in t ≡ None
 unnamed t h = ap (λ (b : Bool). elim b as (λ _. Option Ident) [ true ↦ Some (record { place = t.place; name = t.bytes }) | false ↦ None ]) (not_name t.kind h)
-
-pub numbered : (t : Lexeme) → t.kind ≡ Numeral → number_in t ≡ number_of t.bytes
-numbered t e = ap (λ (k : Kind). elim (eqb (kind_number k) 3) as (λ _. Option ℤ) [ true ↦ number_of t.bytes | false ↦ None ]) e
-
-pub unnumbered : (t : Lexeme) → (t.kind ≡ Numeral → ⊥) → number_in t ≡ None
-unnumbered t h = ap (λ (b : Bool). elim b as (λ _. Option ℤ) [ true ↦ number_of t.bytes | false ↦ None ]) (not_numeral t.kind h)
 
 abbrev atom-by : ℕ → Option Ident → Option ℤ → Option Atom
 atom-by p n z = elim n [ Some x ↦ Some (var x) | None ↦ elim z [ Some n ↦ Some (num p n) | None ↦ None ] ]
@@ -184,16 +184,13 @@ atom-by p n z = elim n [ Some x ↦ Some (var x) | None ↦ elim z [ Some n ↦ 
 pub atom-by_is : (t : Lexeme) (n : Option Ident) (z : Option ℤ) → name_in t ≡ n → number_in t ≡ z → atom_in t ≡ atom-by t.place n z
 atom-by_is t n z e f = ap (λ (v : Option Ident). atom-by t.place v (number_in t)) e ∙ ap (atom-by t.place n) f
 
-pub numeral_unnamed : (t : Lexeme) → t.kind ≡ Numeral → t.kind ≡ Name → ⊥
-numeral_unnamed t e f = let z : ◌≡◌ {A = ℕ} 3 1 = ap kind_number (sym e ∙ f) in omega arith
-
--- behind `@`: the name, and the parenthesis behind it
-abbrev pub opened-close : ℕ → Ident → Reader Ident
-opened-close end r ts = then (mark_of end (codes "(") ts) λ _. give r
-
-abbrev pub opened-name : ℕ → Reader Ident
-opened-name end ts = then (name_of end ts) (opened-close end)
-
--- the exit of a `?` in a call that answers a value of its own
-pub broken_at : {A : Type 0} (P : A → Type 0) (Q : Fault → Type 0) {r : Result A Fault} {e : Fault} → (y : Fault) × (r ≡ Err y) × (y ≡ e) → Q e → MatchResult r P Q
-broken_at P Q p h = subst (λ r. MatchResult r P Q) (sym p.1) (subst Q (sym p.2) h)
+-- an atom is not the end
+pub atom-more : (t : Lexeme) (x : Atom) → atom_in t ≡ Some x → at_end t.kind ≡ false
+atom-more t x e = by t.kind refl
+  where
+    by : (k : Kind) → t.kind ≡ k → at_end t.kind ≡ false
+    by End h = absurd (both_ways (is_some (atom_in t)) (ap (λ k. is_some (atom_in (record { kind = k; place = t.place; bytes = t.bytes }))) h) (ap is_some e))
+    by Name h = ap at_end h
+    by Keyword h = ap at_end h
+    by Numeral h = ap at_end h
+    by Mark h = ap at_end h

@@ -1,5 +1,5 @@
 -- A text whose tokens pass the questions 1 to 5, and the answer of reading it.
-use Rattle.std.proofs.Common.{◌≡◌, ℕ, zero, suc, ◌≤◌, Bool, true, false, leb, List, [], length, is_ok, Ok, Err, Result, sym, refl, ap, ◌∙◌, subst, inl, inr, arith}
+use Rattle.std.proofs.Common.{◌≡◌, ℕ, zero, suc, ◌≤◌, Bool, true, false, leb, List, [], length, is_ok, Ok, Err, Result, sym, refl, ap, ◌∙◌, inl, inr, arith}
 use Rattle.std.proofs.lemmas.Bool.Decides.{nat_tests}
 use Rattle.lexing.specs.declared.fault.Question.TheVariants.{TextLength}
 use Rattle.lexing.specs.Numbers.{question_number}
@@ -13,11 +13,9 @@ use Rattle.language.specs.Syntax.{Script}
 use Rattle.language.specs.Reading.{script_of, reading, funs}
 use Rattle.draft.specs.Origin.{WasRead}
 use Rattle.draft.specs.Items.{items_of}
-use Rattle.draft.specs.declared.table.Table.{Table}
-use Rattle.lexing.specs.declared.fault.Fault.{Fault}
-use Rattle.reading.specs.Cursors.{walk, granted, tokens_left, refused}
+use Rattle.reading.specs.Standing.{walk, granted, tokens_left}
 use Rattle.reading.specs.Parts.{function_of}
-use Rattle.reading.specs.Answers.{held_then, Filled}
+use Rattle.reading.specs.Answers.{held_then}
 use Rattle.reading.proofs.Walks.{before-ok, ok-is}
 
 bound-by_end : (f : Others) (room : ℕ) (t : Lexeme) (rest : List ℕ) (v : Bool) (ts : List Lexeme) → ((more : ℕ) (us : List Lexeme) → f more (behind t) rest ≡ Ok us → length us ≤ more) → by_end f room t rest v ≡ Ok ts → length ts ≤ room
@@ -70,16 +68,8 @@ scanned s n e = by (leb (length s) 16384) refl
         }
     by false k = absurd (apart n (record { question = TextLength; place = 0 }) (e ∙ ap (λ v. counted (by_length s v)) k))
 
-pub counted-err : (a : Result (List Lexeme) Refusal) (x : Refusal) → Err x ≡ counted a → a ≡ Err x
-counted-err (Ok ts) x e = let z : ◌≡◌ {A = ℕ} 0 1 = cc in absurd (omega arith)
-counted-err (Err y) x e = sym (let z : Refusal = x in cc)
-
 abbrev reading-by : List ℕ → Result (List Lexeme) Refusal → Result Script Refused
 reading-by s a = elim a [ Err e ↦ Err (record { number = question_number e.question; place = e.place }) | Ok ts ↦ script_of (length s) (suc (length ts)) most_lists most_blocks ts ]
-
--- the answer of reading, by the tokens
-pub reading-err : (s : List ℕ) (x : Refusal) → tokens_of s ≡ Err x → reading s ≡ Err (record { number = question_number x.question; place = x.place })
-reading-err s x e = ap (reading-by s) e
 
 pub reading-ok : (s : List ℕ) (ts : List Lexeme) → tokens_of s ≡ Ok ts → reading s ≡ funs (length s) (function_of (length s) (suc (length ts))) (suc (length ts)) ts
 reading-ok s ts e = ap (reading-by s) e
@@ -88,7 +78,3 @@ reading-ok s ts e = ap (reading-by s) e
 pub holds-some : (text : List ℕ) (r : Result Script Refused) → reading text ≡ r → (s : Script) × (held_then r ≡ items_of s) × WasRead s
 holds-some text (Ok s) e = (s, refl, inr (text, e))
 holds-some text (Err f) e = ([], refl, inl refl)
-
--- the exit of a `?`
-pub broken_fill : (s : List ℕ) (t : Table) {r : Result (Unit {0}) Fault} {e : Fault} → (y : Fault) × (r ≡ Err y) × (y ≡ e) → reading s ≡ Err (refused e) → Filled s r t
-broken_fill s t p h = subst (λ r. Filled s r t) (sym (p.1 ∙ ap Err p.2)) h

@@ -4,7 +4,7 @@ use Rattle.lexing.specs.Tokens.{Lexeme, Refusal, token_at}
 use Rattle.lexing.specs.Texts.{before, at_end, behind, from_one, tokens_from}
 use Rattle.lexing.proofs.Counts.{Others, by_end, from_one-is, steps_enough}
 use Rattle.lexing.proofs.Walks.{token-shorter}
-use Rattle.reading.specs.Cursors.{walk, granted, tokens_left}
+use Rattle.reading.specs.Standing.{walk, granted, tokens_left}
 
 pub before-ok : (t : Lexeme) (a : Result (List Lexeme) Refusal) (ts : List Lexeme) → before t a ≡ Ok ts → (us : List Lexeme) × (a ≡ Ok us) × (t ∷ us ≡ ts)
 before-ok t (Ok us) ts e = (us, refl, cc)
@@ -69,9 +69,7 @@ first offset s t rest e h = record {
   passes = λ k. ap is_ok (walk_more offset s t rest e k h).2;
 }
 
--- a walk that passes has no refusal at its first token
-pub no-refusal : (offset : ℕ) (s : List ℕ) (x : Refusal) → token_at offset s ≡ Err x → is_ok (walk offset s) ≡ true → ⊥
-no-refusal offset s x e h =
-    let w : walk offset s ≡ Err x = ap (from_one (tokens_from (length s)) 4096) e in
-    let z : ◌≡◌ {A = Bool} false true = sym (ap is_ok w) ∙ h in
-    let y : ◌≡◌ {A = ℕ} 0 1 = cc in omega arith
+-- nothing that is left has no token
+pub no_tokens : (offset : ℕ) (s : List ℕ) → length s ≡ 0 → walk offset s ≡ Ok []
+no_tokens offset [] e = refl
+no_tokens offset (b ∷ bs) e = absurd (omega arith)

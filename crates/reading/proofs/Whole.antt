@@ -4,13 +4,12 @@ use Rattle.lexing.specs.declared.fault.Fault.{Fault}
 use Rattle.lexing.specs.Tokens.{Lexeme}
 use Rattle.language.specs.Verdict.{Refused}
 use Rattle.language.specs.Reading.{Reader, Answer, funs}
-use Rattle.draft.specs.declared.table.Table.{Table}
 use Rattle.reading.specs.declared.cursor.Cursor.{Cursor}
 use Rattle.reading.specs.Growth.{ReadsAll}
 
 -- the exit of a `?`
-pub broken_all : (whole room : ℕ) (c : Cursor) (old new : Table) {r : Result (Unit {0}) Fault} {e : Fault} → (y : Fault) × (r ≡ Err y) × (y ≡ e) → ReadsAll whole room c old new (Err e) → ReadsAll whole room c old new r
-broken_all whole room c old new p h = subst (ReadsAll whole room c old new) (sym (p.1 ∙ ap Err p.2)) h
+pub broken_all : (whole room : ℕ) (c d : Cursor) {r : Result (Unit {0}) Fault} {e : Fault} → (y : Fault) × (r ≡ Err y) × (y ≡ e) → ReadsAll whole room c d (Err e) → ReadsAll whole room c d r
+broken_all whole room c d p h = subst (ReadsAll whole room c d) (sym (p.1 ∙ ap Err p.2)) h
 
 abbrev joined : {A : Type 0} → A → Result (List A) Refused → Result (List A) Refused
 joined f (Ok fs) = Ok (f ∷ fs)

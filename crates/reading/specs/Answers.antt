@@ -34,7 +34,7 @@ pub record Full (source : List ℕ) (t : Table) : Type 0 where
   pub reads : reading source ≡ Ok tree
   pub told : items t ≡ items_of tree
   pub text : text_of t ≡ source
-  pub long : t.length ≡ length source
+  pub long : length t.text.items ≡ length source
 
 abbrev pub Filled : List ℕ → Result (Unit {0}) Fault → Table → Type 0
 Filled text r t = MatchResult r (λ _. Full text t) (λ e. reading text ≡ Err (refused e))

@@ -1,3 +1,4 @@
+pub mod Standing
 pub mod Cursors
 pub mod Parts
 pub mod Growth

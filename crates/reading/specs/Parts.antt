@@ -1,9 +1,9 @@
 -- The parts of the grammar as the reader takes them, and the items of each.
 use Rattle.std.specs.Prelude.{ℕ, List}
-use Rattle.language.specs.Syntax.{Ident, Atom, Right, Block, Fun}
-use Rattle.language.specs.Reading.{Reader, here, rest, then, give, atom_of, type_of, right_of, block_of, inside, fun_of}
+use Rattle.language.specs.Syntax.{Ident, Right, Block, Fun}
+use Rattle.language.specs.Reading.{Reader, here, rest, type_of, right_of, block_of, inside, fun_of}
 use Rattle.language.specs.Nesting.{most_lists, most_blocks}
-use Rattle.draft.specs.Items.{Item, items_atom, items_handed, items_header_region}
+use Rattle.draft.specs.Items.{Item, items_handed, items_header_region}
 use Rattle.reading.specs.declared.lists.Side.{Side}
 use Rattle.reading.specs.declared.lists.Side.TheVariants.{Header, Call}
 
@@ -15,13 +15,6 @@ items_region Call r after = items_handed r after
 -- what stands behind the next token, with its place
 abbrev pub behind_word : {A : Type 0} → ℕ → (ℕ → Reader A) → Reader A
 behind_word end met ts = met (here end ts) (rest ts)
-
--- two atoms
-abbrev pub two_atoms : ℕ → Reader (Atom × Atom)
-two_atoms end ts = then (atom_of end ts) λ a ts. then (atom_of end ts) λ b. give (a, b)
-
-abbrev pub items_two : Atom × Atom → List Item → List Item
-items_two p after = items_atom p.0 (items_atom p.1 after)
 
 -- a right side, and a block, in which `blocks` may be nested
 abbrev pub side_of : ℕ → ℕ → ℕ → Reader Right

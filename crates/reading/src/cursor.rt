@@ -1,113 +1,133 @@
-// A cursor in a text: the token that comes next, and what stands behind it.
-ghost use Rattle.std.specs.Prelude.{◌≡◌, true, false, ◌∷◌, length, None, Ok, Err, MatchOption, MatchResult};
-ghost use Rattle.lexing.specs.Texts.{at_end};
-ghost use Rattle.language.specs.Reading.{starts, mark_of, key_of, name_of, atom_in, atom_of};
-ghost use Rattle.draft.specs.Items.{ident};
-ghost use Rattle.reading.specs.Heads.{head_of};
-ghost use Rattle.reading.specs.Cursors.{Left, Sound, Next, Past, Passes, AtomSaid, AtomRead, tokens_left, ahead, token_of, end_of, refused, word_of, opened_of};
+// A cursor in a text: the token that comes next, what stands behind it, and the table that says what was read.
+ghost use Rattle.std.specs.Prelude.{◌≡◌, ◌+◌, ◌<◌, ◌≤◌, length};
+ghost use Rattle.draft.specs.Items.{text_of};
+ghost use Rattle.reading.specs.Standing.{Left, Sound, tokens_left, tokens_at};
 
-use crate::head::{Head, head_word, same};
+use crate::head::{Head, head_word};
 use draft::command::{Command, Name};
+use draft::table::Table;
+use lexing::bytes::same;
 use lexing::fault::{Fault, Question};
 use lexing::lex::token_at;
 use lexing::numeral::number;
 use lexing::token::Kind;
 
-#[derive(Clone, Copy)]
-pub(crate) struct Cursor<'a> {
+// The token's fields, and no `Token`: a struct that nests another one of the same lifetime is not covered by the checker.
+#[derive(Drop)]
+pub(crate) struct Cursor<'a, 't> {
     text: &'a [u8],
     kind: Kind,
     pub(crate) place: usize,
     bytes: &'a [u8],
     rest: &'a [u8],
+    table: &'t mut Table,
+    // The token stands where the text has it, and all behind it passes.
+    ghost sound: { Sound text.now (record { kind = kind; place = place; bytes = bytes.now }) rest.now },
+    // The table has a copy of the text, and room for a command to each token that is left.
+    ghost copied: { text_of table.now ≡ text.now },
+    ghost room: { length table.now.commands.items + length (tokens_at (record { kind = kind; place = place; bytes = bytes.now }) rest.now) ≤ 4096 },
 }
 
-impl<'a> Cursor<'a> {
-    // The cursor at the first token of the rest of a text, which stands `offset` bytes into it.
-    pub(crate) fn at(text: &'a [u8], rest: &'a [u8], offset: usize) -> Result<Cursor<'a>, Fault>
-        requires { Left text.now rest.now offset }
-        ensures { MatchResult result (λ c. Sound c × (c.text.now ≡ text.now) × (ahead c ≡ tokens_left offset rest.now)) (λ _. ⊥) }
+impl<'a, 't> Cursor<'a, 't> {
+    ghost use Rattle.std.specs.Prelude.{true, false, ◌∷◌, None, Ok, Err, MatchOption, MatchResult};
+    ghost use Rattle.lexing.specs.Texts.{at_end};
+    ghost use Rattle.language.specs.Reading.{starts, mark_of, key_of, name_of, atom_in, atom_of};
+    ghost use Rattle.draft.specs.Items.{ident};
+    ghost use Rattle.reading.specs.Heads.{head_of};
+    ghost use Rattle.reading.specs.Cursors.{Skips, Next, Passes, AtomSaid, AtomRead, Pushed, ahead, token_of, end_of, refused, word_of, opened_of};
+
+    // The cursor at the first token of a text, whose copy the table has.
+    pub(crate) fn new(text: &'a [u8], table: &'t mut Table) -> Result<Cursor<'a, 't>, Fault>
+        requires left { Left text.now text.now 0 }
+        requires copied { text_of table.old ≡ text.now }
+        requires room { length table.old.commands.items + length (tokens_left 0 text.now) ≤ 4096 }
+        ensures { MatchResult result (λ c. (c.text.now ≡ text.now) × (ahead c ≡ tokens_left 0 text.now) × (c.table.ghost_name ≡ table.entry.ghost_name) × (c.table.now ≡ table.old)) (λ _. ⊥) }
     {
-        let (token, rest) = token_at(rest, offset)?;
+        let (token, rest) = token_at(text, 0)?;
         Ok(Cursor {
             text,
             kind: token.kind,
             place: token.place,
             bytes: token.bytes,
             rest,
+            table,
         })
     }
 
-    // The cursor at the token behind this one.
-    pub(crate) fn advance(self) -> Result<Cursor<'a>, Fault>
-        requires sound { Sound self }
-        requires more { at_end self.kind ≡ false }
-        ensures { MatchResult result (λ c. Next self.entry c × (ahead self.entry ≡ token_of self.entry ∷ ahead c)) (λ _. ⊥) }
+    // One token on, or at the end to stay there.
+    pub(crate) fn advance(&mut self) -> Result<(), Fault>
+        ensures { MatchResult result (λ _. Skips self.old self.new) (λ _. ⊥) }
     {
-        Cursor::at(self.text, self.rest, self.place + self.bytes.len())
+        let (token, rest) = token_at(self.rest, self.place + self.bytes.len())?;
+        self.kind = token.kind;
+        self.place = token.place;
+        self.bytes = token.bytes;
+        self.rest = rest;
+        Ok(())
     }
 
-    // The refusal of the next token.
-    pub(crate) fn refused(self) -> Fault
-        ensures { result ≡ record { question = Question.Grammar; place = self.entry.place } }
+    // One command more in the table.
+    pub(crate) fn push(&mut self, command: Command)
+        requires { length self.old.table.now.commands.items + length (ahead self.old) < 4096 }
+        ensures { Pushed command self.old self.new }
+    {
+        self.table.push(command);
+    }
+
+    // The refusal of the next token, by the question that fails there.
+    pub(crate) fn refused(&self, question: Question) -> Fault
+        ensures { result ≡ record { question = question; place = self.now.place } }
     {
         Fault {
-            question: Question::Grammar,
+            question,
             place: self.place,
         }
     }
 
+    // Whether no token is left.
+    pub(crate) fn at_end(&self) -> bool
+        ensures { result ≡ at_end self.now.kind }
+    {
+        matches!(self.kind, Kind::End)
+    }
+
     // Whether the next token is that keyword or mark.
-    pub(crate) fn stands(self, kind: Kind, word: &[u8]) -> bool
-        requires { at_end kind ≡ false }
-        ensures { result ≡ starts kind word.now (ahead self.entry) }
+    pub(crate) fn stands(&self, kind: Kind, word: &[u8]) -> bool
+        ensures { result ≡ starts kind word.now (ahead self.now) }
     {
-        self.kind.number() == kind.number() && same(self.bytes, word)
-    }
-
-    // The cursor behind that keyword or mark, if it stands there.
-    pub(crate) fn past(self, kind: Kind, word: &[u8]) -> Result<Option<Cursor<'a>>, Fault>
-        requires sound { Sound self }
-        requires some { at_end kind ≡ false }
-        ensures { MatchResult result (λ o. MatchOption o (starts kind word.now (ahead self.entry) ≡ false) (λ c. Next self.entry c × Past kind word.now self.entry c)) (λ _. ⊥) }
-    {
-        if self.stands(kind, word) {
-            Ok(Some(self.advance()?))
-        } else {
-            Ok(None)
+        if self.at_end() {
+            return false;
         }
+        self.kind == kind && same(self.bytes, word)
     }
 
-    // The cursor behind the keyword or mark that has to stand there.
-    fn behind(self, kind: Kind, word: &[u8]) -> Result<Cursor<'a>, Fault>
-        requires sound { Sound self }
-        requires some { at_end kind ≡ false }
-        ensures { MatchResult result (λ c. Next self.entry c × (word_of (end_of self.entry) kind word.now (ahead self.entry) ≡ Ok (self.entry.place, ahead c))) (λ e. word_of (end_of self.entry) kind word.now (ahead self.entry) ≡ Err (refused e)) }
+    // The keyword or the mark that has to stand there.
+    fn expect(&mut self, kind: Kind, word: &[u8]) -> Result<(), Fault>
+        ensures { Passes (word_of (end_of self.old) kind word.now) self.old.place self.old self.new result }
     {
-        match self.past(kind, word)? {
-            Some(cursor) => Ok(cursor),
-            None => Err(self.refused()),
+        if !self.stands(kind, word) {
+            return Err(self.refused(Question::Grammar));
         }
+        self.advance()
     }
 
-    pub(crate) fn mark(self, word: &[u8]) -> Result<Cursor<'a>, Fault>
-        requires { Sound self }
-        ensures { Passes (mark_of (end_of self.entry) word.now) (λ _. self.entry.place) self.entry result }
+    // These two name the kind that `expect` is given, so that a call says which it wants.
+
+    pub(crate) fn mark(&mut self, word: &[u8]) -> Result<(), Fault>
+        ensures { Passes (mark_of (end_of self.old) word.now) self.old.place self.old self.new result }
     {
-        self.behind(Kind::Mark, word)
+        self.expect(Kind::Mark, word)
     }
 
-    pub(crate) fn keyword(self, word: &[u8]) -> Result<Cursor<'a>, Fault>
-        requires { Sound self }
-        ensures { Passes (key_of (end_of self.entry) word.now) (λ _. self.entry.place) self.entry result }
+    pub(crate) fn keyword(&mut self, word: &[u8]) -> Result<(), Fault>
+        ensures { Passes (key_of (end_of self.old) word.now) self.old.place self.old self.new result }
     {
-        self.behind(Kind::Keyword, word)
+        self.expect(Kind::Keyword, word)
     }
 
     // The token as a name.
-    fn as_name(self) -> Name
-        requires { Sound self }
-        ensures { ident self.entry.text.now result ≡ record { place = self.entry.place; name = self.entry.bytes.now } }
+    fn as_name(&self) -> Name
+        ensures { ident self.now.text.now result ≡ record { place = self.now.place; name = self.now.bytes.now } }
     {
         Name {
             place: self.place,
@@ -116,85 +136,59 @@ impl<'a> Cursor<'a> {
     }
 
     // The name that has to stand there.
-    pub(crate) fn name(self) -> Result<(Name, Cursor<'a>), Fault>
-        requires { Sound self }
-        ensures { MatchResult result (λ p. Next self.entry p.1 × (name_of (end_of self.entry) (ahead self.entry) ≡ Ok (ident self.entry.text.now p.0, ahead p.1))) (λ e. name_of (end_of self.entry) (ahead self.entry) ≡ Err (refused e)) }
+    pub(crate) fn name(&mut self) -> Result<Name, Fault>
+        ensures { MatchResult result (λ x. Next self.old self.new × (name_of (end_of self.old) (ahead self.old) ≡ Ok (ident self.old.text.now x, ahead self.new))) (λ e. name_of (end_of self.old) (ahead self.old) ≡ Err (refused e)) }
     {
-        if let Kind::Name = self.kind {
-            let cursor = self.advance()?;
-            Ok((self.as_name(), cursor))
-        } else {
-            Err(self.refused())
-        }
+        let Kind::Name = self.kind else {
+            return Err(self.refused(Question::Grammar));
+        };
+        let name = self.as_name();
+        self.advance()?;
+        Ok(name)
     }
 
     // The token as an atom, if it is one.
-    fn as_atom(self) -> Option<Command>
-        requires { Sound self }
-        ensures { MatchOption result (atom_in (token_of self.entry) ≡ None) (λ command. AtomSaid self.entry command) }
+    fn as_atom(&self) -> Option<Command>
+        ensures { MatchOption result (atom_in (token_of self.now) ≡ None) (λ command. AtomSaid self.now command) }
     {
         match self.kind {
             Kind::Name => Some(Command::Variable(self.as_name())),
-            Kind::Numeral => match number(self.bytes) {
-                Some(value) => Some(Command::Number(self.place, value)),
-                None => None,
-            },
+            Kind::Numeral => {
+                let place = self.place;
+                number(self.bytes).map(|value| Command::Number(place, value))
+            }
             _ => None,
         }
     }
 
     // The atom that has to stand there, as a command.
-    pub(crate) fn atom(self) -> Result<(Command, Cursor<'a>), Fault>
-        requires { Sound self }
-        ensures { MatchResult result (λ p. Next self.entry p.1 × AtomRead self.entry p.0 p.1) (λ e. atom_of (end_of self.entry) (ahead self.entry) ≡ Err (refused e)) }
+    pub(crate) fn atom(&mut self) -> Result<Command, Fault>
+        ensures { MatchResult result (λ command. Next self.old self.new × AtomRead self.old command self.new) (λ e. atom_of (end_of self.old) (ahead self.old) ≡ Err (refused e)) }
     {
-        match self.as_atom() {
-            Some(command) => {
-                let cursor = self.advance()?;
-                Ok((command, cursor))
-            }
-            None => Err(self.refused()),
-        }
+        let Some(command) = self.as_atom() else {
+            return Err(self.refused(Question::Grammar));
+        };
+        self.advance()?;
+        Ok(command)
     }
 
     // The region that has to stand behind `@`, and the parenthesis that opens behind it.
-    pub(crate) fn opened(self) -> Result<(Name, Cursor<'a>), Fault>
-        requires { Sound self }
-        ensures { MatchResult result (λ p. Next self.entry p.1 × (opened_of (end_of self.entry) (ahead self.entry) ≡ Ok (ident self.entry.text.now p.0, ahead p.1))) (λ e. opened_of (end_of self.entry) (ahead self.entry) ≡ Err (refused e)) }
+    pub(crate) fn opened(&mut self) -> Result<Name, Fault>
+        ensures { MatchResult result (λ x. Next self.old self.new × (opened_of (end_of self.old) (ahead self.old) ≡ Ok (ident self.old.text.now x, ahead self.new))) (λ e. opened_of (end_of self.old) (ahead self.old) ≡ Err (refused e)) }
     {
-        let cursor = self.mark(b"@")?;
-        let (region, cursor) = cursor.name()?;
-        let cursor = cursor.mark(b"(")?;
-        Ok((region, cursor))
+        self.mark(b"@")?;
+        let region = self.name()?;
+        self.mark(b"(")?;
+        Ok(region)
     }
 
-    // The refusal of a block or a list that is nested too deep.
-    pub(crate) fn too_deep(self) -> Fault
-        ensures { result ≡ record { question = Question.Nesting; place = self.entry.place } }
-    {
-        Fault {
-            question: Question::Nesting,
-            place: self.place,
-        }
-    }
-
-    // Whether no token is left.
-    pub(crate) fn at_end(self) -> bool
-        ensures { result ≡ at_end self.entry.kind }
-    {
-        match self.kind {
-            Kind::End => true,
-            _ => false,
-        }
-    }
-
-    // The word of a right side that stands there.
-    pub(crate) fn head(self) -> Head
-        ensures { result ≡ head_of (token_of self.entry) }
+    // The form of a right side that stands there, if it is one that a keyword begins.
+    pub(crate) fn head(&self) -> Option<Head>
+        ensures { result ≡ head_of (token_of self.now) }
     {
         match self.kind {
             Kind::Keyword => head_word(self.bytes),
-            _ => Head::Other,
+            _ => None,
         }
     }
 }

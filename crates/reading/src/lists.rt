@@ -1,20 +1,32 @@
-// Names and atoms with commas between them.
+// Lists of elements with commas between them.
 ghost use Rattle.std.specs.Prelude.{◌≡◌, ℕ, ◌<◌, List, [], ◌∷◌, length, codes};
-ghost use Rattle.language.specs.Reading.{commas, regions, elements, name_of, atom_of, param_of};
+ghost use Rattle.language.specs.Syntax.{Ident, Atom as AtomTree, Param};
+ghost use Rattle.language.specs.Reading.{Reader, commas, regions, elements, name_of, atom_of, param_of};
 ghost use Rattle.language.specs.Nesting.{most_lists};
 ghost use Rattle.draft.specs.Items.{Item, item, ident, items_each, items_atom, items_param};
 ghost use Rattle.reading.specs.Cursors.{end_of, ahead};
-ghost use Rattle.reading.specs.Growth.{Ready, Reads};
+ghost use Rattle.reading.specs.Growth.{Reads};
 ghost use Rattle.reading.specs.Parts.{items_region};
 
 use crate::cursor::Cursor;
 use crate::types::read_type;
 use draft::command::{Command, Name};
-use draft::table::Table;
 use lexing::fault::Fault;
 use lexing::token::Kind;
 
 pub(crate) const MOST_LISTS: usize = 5;
+
+// What stands in a list: how it is read, and the items that the table says of it.
+pub(crate) trait Element: Copy {
+    ghost Tree: { Type 0 };
+
+    ghost reader: { ℕ → Reader Self.Tree };
+
+    ghost told: { Self → Self.Tree → List Item → List Item };
+
+    fn read(self, cursor: &mut Cursor<'_, '_>) -> Result<(), Fault>
+        ensures { Reads (reader (end_of cursor.old)) (told self) cursor.old cursor.new result };
+}
 
 // Where a region is named: in a function's header, or in a call.
 #[derive(Clone, Copy)]
@@ -34,94 +46,95 @@ impl Side {
     }
 }
 
-// One region or more, and the closing bracket.
-fn read_names<'a>(cursor: Cursor<'a>, table: &mut Table, side: Side) -> Result<Cursor<'a>, Fault>
-    requires { Ready table.old cursor }
-    ensures { (room : ℕ) → length (ahead cursor.entry) < room → Reads (commas (end_of cursor.entry) (codes "]") (name_of (end_of cursor.entry)) room) (items_each (items_region side)) cursor.entry table.old table.new result }
-{
-    let (name, behind) = cursor.name()?;
-    table.push(side.command(name));
-    match behind.past(Kind::Mark, b",")? {
-        Some(next) => read_names(next, table, side),
-        None => behind.mark(b"]"),
+// A region.
+impl Element for Side {
+    ghost Tree = { Ident };
+
+    ghost reader = { name_of };
+
+    ghost told = { items_region };
+
+    fn read(self, cursor: &mut Cursor<'_, '_>) -> Result<(), Fault> {
+        let name = cursor.name()?;
+        cursor.push(self.command(name));
+        Ok(())
     }
 }
 
-// The regions in brackets, if any, and the opening parenthesis.
-pub(crate) fn read_regions<'a>(
-    cursor: Cursor<'a>,
-    table: &mut Table,
-    side: Side,
-) -> Result<Cursor<'a>, Fault>
-    requires { Ready table.old cursor }
-    ensures { (room : ℕ) → length (ahead cursor.entry) < room → Reads (regions (end_of cursor.entry) room) (items_each (items_region side)) cursor.entry table.old table.new result }
-{
-    match cursor.past(Kind::Mark, b"[")? {
-        Some(first) => {
-            let behind = read_names(first, table, side)?;
-            behind.mark(b"(")
-        }
-        None => cursor.mark(b"("),
-    }
-}
+// An atom.
+#[derive(Clone, Copy)]
+pub(crate) struct Atom;
 
-// One atom or more, and the closing parenthesis.
-fn read_atoms<'a>(cursor: Cursor<'a>, table: &mut Table) -> Result<Cursor<'a>, Fault>
-    requires { Ready table.old cursor }
-    ensures { (room : ℕ) → length (ahead cursor.entry) < room → Reads (commas (end_of cursor.entry) (codes ")") (atom_of (end_of cursor.entry)) room) (items_each items_atom) cursor.entry table.old table.new result }
-{
-    let (atom, behind) = cursor.atom()?;
-    table.push(atom);
-    match behind.past(Kind::Mark, b",")? {
-        Some(next) => read_atoms(next, table),
-        None => behind.mark(b")"),
-    }
-}
+impl Element for Atom {
+    ghost Tree = { AtomTree };
 
-// The arguments of a call, if any, and the closing parenthesis.
-pub(crate) fn read_arguments<'a>(cursor: Cursor<'a>, table: &mut Table) -> Result<Cursor<'a>, Fault>
-    requires { Ready table.old cursor }
-    ensures { (room : ℕ) → length (ahead cursor.entry) < room → Reads (elements (end_of cursor.entry) (atom_of (end_of cursor.entry)) room) (items_each items_atom) cursor.entry table.old table.new result }
-{
-    match cursor.past(Kind::Mark, b")")? {
-        Some(behind) => Ok(behind),
-        None => read_atoms(cursor, table),
+    ghost reader = { atom_of };
+
+    ghost told = { λ _. items_atom };
+
+    fn read(self, cursor: &mut Cursor<'_, '_>) -> Result<(), Fault> {
+        let atom = cursor.atom()?;
+        cursor.push(atom);
+        Ok(())
     }
 }
 
 // A parameter with its type.
-fn read_parameter<'a>(cursor: Cursor<'a>, table: &mut Table) -> Result<Cursor<'a>, Fault>
-    requires { Ready table.old cursor }
-    ensures { Reads (param_of (end_of cursor.entry) most_lists) items_param cursor.entry table.old table.new result }
-{
-    let (name, behind) = cursor.name()?;
-    let typed = behind.mark(b":")?;
-    table.push(Command::Parameter(name));
-    read_type(typed, table, MOST_LISTS)
-}
+#[derive(Clone, Copy)]
+pub(crate) struct Parameter;
 
-// One parameter or more, and the closing parenthesis.
-fn read_some_parameters<'a>(cursor: Cursor<'a>, table: &mut Table) -> Result<Cursor<'a>, Fault>
-    requires { Ready table.old cursor }
-    ensures { (room : ℕ) → length (ahead cursor.entry) < room → Reads (commas (end_of cursor.entry) (codes ")") (param_of (end_of cursor.entry) most_lists) room) (items_each items_param) cursor.entry table.old table.new result }
-{
-    let behind = read_parameter(cursor, table)?;
-    match behind.past(Kind::Mark, b",")? {
-        Some(next) => read_some_parameters(next, table),
-        None => behind.mark(b")"),
+impl Element for Parameter {
+    ghost Tree = { Param };
+
+    ghost reader = { λ end. param_of end most_lists };
+
+    ghost told = { λ _. items_param };
+
+    fn read(self, cursor: &mut Cursor<'_, '_>) -> Result<(), Fault> {
+        let name = cursor.name()?;
+        cursor.mark(b":")?;
+        cursor.push(Command::Parameter(name));
+        read_type(cursor, MOST_LISTS)
     }
 }
 
-// The parameters of a function, if any, and the closing parenthesis.
-pub(crate) fn read_parameters<'a>(
-    cursor: Cursor<'a>,
-    table: &mut Table,
-) -> Result<Cursor<'a>, Fault>
-    requires { Ready table.old cursor }
-    ensures { (room : ℕ) → length (ahead cursor.entry) < room → Reads (elements (end_of cursor.entry) (param_of (end_of cursor.entry) most_lists) room) (items_each items_param) cursor.entry table.old table.new result }
+// One element or more, and the closing mark.
+fn read_commas<E: Element>(
+    cursor: &mut Cursor<'_, '_>,
+    element: E,
+    close: &[u8],
+) -> Result<(), Fault>
+    ensures { (room : ℕ) → length (ahead cursor.old) < room → Reads (commas (end_of cursor.old) close.now (E.reader (end_of cursor.old)) room) (items_each (E.told element)) cursor.old cursor.new result }
 {
-    match cursor.past(Kind::Mark, b")")? {
-        Some(behind) => Ok(behind),
-        None => read_some_parameters(cursor, table),
+    element.read(cursor)?;
+    if !cursor.stands(Kind::Mark, b",") {
+        return cursor.mark(close);
     }
+    cursor.advance()?;
+    read_commas(cursor, element, close)
+}
+
+// The elements behind an opening parenthesis, if any, and the closing one.
+pub(crate) fn read_elements<E: Element>(
+    cursor: &mut Cursor<'_, '_>,
+    element: E,
+) -> Result<(), Fault>
+    ensures { (room : ℕ) → length (ahead cursor.old) < room → Reads (elements (end_of cursor.old) (E.reader (end_of cursor.old)) room) (items_each (E.told element)) cursor.old cursor.new result }
+{
+    if cursor.stands(Kind::Mark, b")") {
+        return cursor.advance();
+    }
+    read_commas(cursor, element, b")")
+}
+
+// The regions in brackets, if any, and the opening parenthesis.
+pub(crate) fn read_regions(cursor: &mut Cursor<'_, '_>, side: Side) -> Result<(), Fault>
+    ensures { (room : ℕ) → length (ahead cursor.old) < room → Reads (regions (end_of cursor.old) room) (items_each (items_region side)) cursor.old cursor.new result }
+{
+    if !cursor.stands(Kind::Mark, b"[") {
+        return cursor.mark(b"(");
+    }
+    cursor.advance()?;
+    read_commas(cursor, side, b"]")?;
+    cursor.mark(b"(")
 }

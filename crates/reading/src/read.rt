@@ -18,8 +18,8 @@ fn fill(text: &[u8], table: &mut Table) -> Result<(), Fault>
 {
     let _count = scan(text)?;
     table.load(text);
-    let cursor = Cursor::at(text, text, 0)?;
-    read_functions(cursor, table)
+    let mut cursor = Cursor::new(text, table)?;
+    read_functions(&mut cursor)
 }
 
 // The same, and a refusal leaves the table empty.
@@ -27,8 +27,9 @@ fn refill(text: &[u8], table: &mut Table) -> Result<(), Fault>
     ensures answer { said result table.new ≡ answered (reading text.now) }
     ensures items { items table.new ≡ held_then (reading text.now) }
     ensures text { text_of table.new ≡ kept result text.now }
-    ensures length { table.new.length ≡ length (kept result text.now) }
+    ensures length { length table.new.text.items ≡ length (kept result text.now) }
 {
+    // By `inspect_err` the table would be cleared in a closure, and what it holds then could not be told.
     match fill(text, table) {
         Ok(()) => Ok(()),
         Err(fault) => {
@@ -43,7 +44,7 @@ pub fn read(text: &[u8], draft: &mut Draft) -> Result<(), Fault>
     ensures answer { said result draft.new.table ≡ answered (reading text.now) }
     ensures items { items draft.new.table ≡ held_then (reading text.now) }
     ensures text { text_of draft.new.table ≡ kept result text.now }
-    ensures length { draft.new.table.length ≡ length (kept result text.now) }
+    ensures length { length draft.new.table.text.items ≡ length (kept result text.now) }
     ensures spelled { ReadsSpelled }
     ensures rightly { RefusesRightly }
 {

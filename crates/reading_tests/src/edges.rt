@@ -29,10 +29,10 @@ fn blocks_nest_8_deep(rt: HostRuntime) {
     let nine =
         b"fun f(): int { let a = region r { let a = region r { let a = region r { let a = region r { let a = region r { let a = region r { let a = region r { let a = region r { 1 }; a }; a }; a }; a }; a }; a }; a }; a }";
     assert_eq!(rt; answer(read(eight, &mut draft)), (0, 0));
-    assert_eq!(rt; draft.table.length, 186);
+    assert_eq!(rt; draft.table.text.len(), 186);
     assert_eq!(rt; answer(read(nine, &mut draft)), (7, 165));
-    assert_eq!(rt; draft.table.length, 0);
-    assert_eq!(rt; draft.table.count, 0);
+    assert_eq!(rt; draft.table.text.len(), 0);
+    assert_eq!(rt; draft.table.commands.len(), 0);
 }
 
 #[test]
@@ -82,6 +82,7 @@ fn every_part_of_a_script_is_refused(rt: HostRuntime) {
         b"fun f[r](x: list@r(int), y: int): int { let a = add 1 -2; let n = nil@r(int); let c = cons@r(a, n); let d = call f[r](c, a); let e = call f(); print e; let i = if a { 1 } else { 2 }; let g = region q { 3 }; let h = case c { 4 } else p t { p }; h }";
     let mut numbers: u32 = 0;
     let mut places: usize = 0;
+    // Each front of the text, by its length.
     for n in 0..text.len() {
         let (number, place) = answer(read(&text[0..n], &mut draft));
         assert!(rt; number != 0);
@@ -91,5 +92,5 @@ fn every_part_of_a_script_is_refused(rt: HostRuntime) {
     assert_eq!(rt; numbers, 1_478);
     assert_eq!(rt; places, 30_347);
     assert_eq!(rt; answer(read(text, &mut draft)), (0, 0));
-    assert_eq!(rt; draft.table.length, 247);
+    assert_eq!(rt; draft.table.text.len(), 247);
 }

@@ -1,23 +1,21 @@
--- How a tape grows, and how it is set back.
-use Rattle.std.proofs.Common.{◌≡◌, ℕ, ◌+◌, List, [], ◌++◌, length, take, sym, ap, ◌∙◌, append_assoc, append-nil, arith, length-append, take-take}
+-- How a list grows at its end, and how it is set back.
+use Rattle.std.proofs.Common.{◌≡◌, ◌+◌, ℕ, List, [], ◌∷◌, ◌++◌, length, take, sym, ap, ◌∙◌, append_assoc, append-nil, length-append}
 use lib.Seq.{take-append_seam}
-use Rattle.program.specs.declared.command.Command.{Command}
-use Rattle.resolving.specs.declared.tape.Tape.{Tape}
-use Rattle.resolving.specs.Walks.{laid, Grows}
+use Rattle.resolving.specs.Walks.{Grows}
 
-pub grows_none : (a : Tape) → Grows a a []
-grows_none a = record { laid_more = sym (append-nil _); counted = omega arith }
+pub grows_none : {A : Type 0} (l : List A) → Grows l l []
+grows_none l = record { is = sym (append-nil l) }
 
-pub grows-join : {a b c : Tape} {xs ys : List Command} → Grows a b xs → Grows b c ys → Grows a c (xs ++ ys)
-grows-join {a} {b} {c} {xs} {ys} g h =
-    record {
-      laid_more = h.laid_more ∙ ap (λ l. l ++ ys) g.laid_more ∙ append_assoc (laid a) xs ys;
-      counted = omega (arith, g.counted, h.counted, length-append xs ys);
-    }
+pub grows-join : {A : Type 0} {l m n xs ys : List A} → Grows l m xs → Grows m n ys → Grows l n (xs ++ ys)
+grows-join {l = l} {xs = xs} {ys = ys} g h = record { is = h.is ∙ ap (λ k. k ++ ys) g.is ∙ append_assoc l xs ys }
 
--- as many as are counted
-pub grows-even : {a b : Tape} {xs : List Command} → Grows a b xs → length (laid a) ≡ a.count → length (laid b) ≡ b.count
-grows-even {a} {b} {xs} g e = omega (arith, ap length g.laid_more, length-append (laid a) xs, g.counted)
+pub grown : {A : Type 0} {l m xs : List A} → Grows l m xs → length m ≡ length l + length xs
+grown {l = l} {xs = xs} g = ap length g.is ∙ length-append l xs
 
-pub set_back : (cs : List Command) (n m : ℕ) (xs before : List Command) → length before ≡ n → m ≡ n + length cs → take m xs ≡ before ++ cs → take n xs ≡ before
-set_back cs n m xs before e k h = sym (take-take n m xs (omega arith)) ∙ ap (take n) h ∙ ap (λ j. take j (before ++ cs)) (sym e) ∙ take-append_seam before cs
+-- set back to where it was, a list is what it was
+pub set_back : {A : Type 0} (at : ℕ) (l m xs : List A) → at ≡ length l → Grows l m xs → take at m ≡ l
+set_back at l m xs e g = ap (take at) g.is ∙ ap (λ n. take n (l ++ xs)) e ∙ take-append_seam l xs
+
+-- one item more, by another word for it
+pub laid : {A : Type 0} {l m : List A} {x y : A} → m ≡ l ++ x ∷ [] → x ≡ y → Grows l m (y ∷ [])
+laid {l = l} e same = record { is = e ∙ ap (λ z. l ++ z ∷ []) same }

@@ -2,8 +2,8 @@
 use Rattle.std.proofs.Common.{◌≡◌, ◌+◌, ◌≤◌, List, [], ◌∷◌, length, arith}
 use Rattle.language.specs.Syntax.{Ident, Ty, int, list, Atom, var, num, Right, atom, oper, nil, cons, call, test, region, split, Block, last, bind, print, Param, Fun}
 use Rattle.draft.specs.Items.{Item, an_outcome, case_names, items_type, items_atom, items_each, items_handed, items_header_region, items_right, items_block, items_param, items_fun}
-use Rattle.program.specs.Compiled.{right_size, block_size}
 use Rattle.program.proofs.Sizes.{bodies-size}
+use Rattle.program.specs.Compiled.{right_size, block_size}
 
 type-length : (T : Ty) (rest : List Item) → length rest ≤ length (items_type T rest)
 type-length int rest = omega arith

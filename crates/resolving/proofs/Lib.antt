@@ -1,8 +1,6 @@
-pub mod Slots
+pub mod Variables
 pub mod Growth
 pub mod Indices
-pub mod Others
-pub mod Rooms
 pub mod Calling
 pub mod Fronts
 pub mod Heading
@@ -15,3 +13,4 @@ pub mod Defaults
 pub mod Lengths
 pub mod Wholes
 pub mod Filled
+pub mod Scopes

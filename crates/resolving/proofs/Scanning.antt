@@ -1,5 +1,5 @@
 -- Looked for among the items of a script, a function is found where the script has it.
-use Rattle.std.proofs.Common.{◌≡◌, ℕ, suc, Bool, true, false, List, [], ◌∷◌, Some, Option, sym, refl, ap, ◌∙◌, arith}
+use Rattle.std.proofs.Common.{◌≡◌, ℕ, suc, Bool, true, false, List, [], ◌∷◌, Some, Option, sym, refl, ap, ◌∙◌}
 use Rattle.lexing.specs.Tokens.{same_bytes}
 use Rattle.language.specs.Syntax.{Ty, int, list, Atom, var, num, Right, atom, oper, nil, cons, call, test, region, split, Block, last, bind, print, Fun, Script}
 use Rattle.language.specs.Types.{Name}
@@ -68,7 +68,7 @@ pub record Scanned (F : Script) (n : Name) (f : Fun) : Type 0 where
   pub header : function_from n (items_of F) ≡ items_fun f rest
 
 pub scanned : (F : Script) (n : Name) (f : Fun) → find_function F n ≡ Some f → Scanned F n f
-scanned [] n f e = absurd (let z : ◌≡◌ {A = ℕ} 0 1 = cc in omega arith)
+scanned [] n f e = absurd (cc)
 scanned (g ∷ F) n f e = go (same_bytes g.name.name n) refl e (scanned F n f)
   where
     go : (b : Bool) → same_bytes g.name.name n ≡ b → ◌≡◌ {A = Option Fun} (elim b [ true ↦ Some g | false ↦ find_function F n ]) (Some f) → (find_function F n ≡ Some f → Scanned F n f) → Scanned (g ∷ F) n f

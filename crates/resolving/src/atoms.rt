@@ -3,9 +3,9 @@ ghost use Rattle.resolving.specs.Walks.{AtomKnown, AtomSort};
 
 use crate::names::Names;
 use draft::command::Command;
-use draft::table::Table;
 use program::command::Operand;
 use scope::command::command_at;
+use scope::state::State;
 use scope::types::Sort;
 
 // An atom's operand and its type.
@@ -16,28 +16,22 @@ pub struct Known {
 }
 
 // The atom at a position.
-pub fn atom(table: &Table, names: &Names, position: usize) -> Known
-    ensures { AtomKnown table.now names.now position result }
+pub fn atom(names: &Names<'_>, position: usize) -> Known
+    ensures { AtomKnown names.now.table.now names.now.state position result }
 {
-    match command_at(table, position) {
-        Some(command) => match command {
-            Command::Variable(name) => {
-                let slot = names.variable(table, name);
-                Known {
-                    operand: Operand::Slot(slot),
-                    sort: sort_in(names, slot),
-                }
+    match command_at(names.table, position) {
+        Some(Command::Variable(name)) => {
+            let slot = names.variable(name);
+            Known {
+                operand: Operand::Slot(slot),
+                sort: sort_in(&names.state, slot),
             }
-            Command::Number(_, number) => Known {
-                operand: Operand::Number(number),
-                sort: Sort::Int,
-            },
-            _ => Known {
-                operand: Operand::Number(0),
-                sort: Sort::Int,
-            },
+        }
+        Some(Command::Number(_, number)) => Known {
+            operand: Operand::Number(number),
+            sort: Sort::Int,
         },
-        None => Known {
+        _ => Known {
             operand: Operand::Number(0),
             sort: Sort::Int,
         },
@@ -45,13 +39,11 @@ pub fn atom(table: &Table, names: &Names, position: usize) -> Known
 }
 
 // The type of the variable in a slot.
-fn sort_in(names: &Names, slot: usize) -> Sort
-    ensures { AtomSort names.now slot result }
+fn sort_in(state: &State, slot: usize) -> Sort
+    ensures { AtomSort state.now slot result }
 {
-    let inside = names.variables_in();
-    if slot < inside.len() {
-        inside[slot].sort
-    } else {
-        Sort::Int
+    match state.variables.item(slot) {
+        Some(variable) => variable.sort,
+        None => Sort::Int,
     }
 }

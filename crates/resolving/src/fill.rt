@@ -6,8 +6,8 @@ ghost use Rattle.draft.specs.Items.{items, items_of};
 ghost use Rattle.program.specs.Held.{Holds};
 ghost use Rattle.resolving.specs.Whole.{HoldsChecked};
 
-use crate::functions::{Entries, fits, functions, seek_main};
-use crate::tape::Tape;
+use crate::calls::seek_function;
+use crate::functions::functions;
 use draft::table::Table;
 use program::code::Code;
 use program::program::Program;
@@ -17,16 +17,8 @@ pub fn fill(table: &Table, program: &mut Program)
     requires { HoldsChecked table.now }
     ensures { (end : ℕ) (s : Script) → items table.now ≡ items_of s → checking end s ≡ ok s → Holds program.new.code s }
 {
-    fits(table);
-    let mut tape = Tape::new();
-    let mut entries = Entries::new();
-    functions(table, &mut tape, &mut entries, 0);
-    let code = Code {
-        commands: tape.commands,
-        count: tape.count,
-        functions: entries.list,
-        many: entries.count,
-        main: seek_main(table, 0, 0),
-    };
+    let mut code = Code::new();
+    functions(table, &mut code, 0);
+    code.main = seek_function(table, b"main", 0, 0).index;
     *program = Program::of(code);
 }

@@ -2,13 +2,14 @@
 ghost use Rattle.std.specs.Prelude.{◌≤◌};
 ghost use Rattle.resolving.specs.Walks.{OneBehind, TypeBehind, RegionsIn, ParamsIn, HeaderWalk};
 
-use crate::names::Names;
 use draft::command::Command as Item;
 use draft::table::Table;
 use scope::command::command_at;
+use scope::state::State;
 use scope::types::Sort;
 
 // The position behind the command at a position.
+// Positions are handed on, not spots: sorts keep them, and of a spot each clause would have to say that it is of the same table.
 pub fn behind(table: &Table, position: usize) -> usize
     ensures onward { position ≤ result }
     ensures walks { OneBehind table.now position result }
@@ -25,66 +26,42 @@ pub fn type_end(table: &Table, position: usize) -> usize
     ensures walks { TypeBehind table.now position result }
 {
     match command_at(table, position) {
-        Some(command) => match command {
-            Item::List(_) => type_end(table, position + 1),
-            _ => position + 1,
-        },
+        Some(Item::List(_)) => type_end(table, position + 1),
+        Some(_) => position + 1,
         None => position,
     }
 }
 
-// Names in scope, and a position.
-#[derive(Clone, Copy)]
-pub struct Brought {
-    pub names: Names,
-    pub position: usize,
-}
-
-// The regions of a header, from a position on.
-pub fn regions(table: &Table, names: &Names, position: usize) -> Brought
-    ensures { RegionsIn table.now names.now position result }
+// The regions of a header come into scope, from a position on; the answer is the position behind them.
+pub fn regions(table: &Table, state: &mut State, position: usize) -> usize
+    ensures { RegionsIn table.now state.old state.new position result }
 {
     match command_at(table, position) {
-        Some(command) => match command {
-            Item::HeaderRegion(name) => regions(table, &names.with_region(name), position + 1),
-            _ => Brought {
-                names: *names,
-                position,
-            },
-        },
-        None => Brought {
-            names: *names,
-            position,
-        },
+        Some(Item::HeaderRegion(name)) => {
+            state.add_region(name);
+            regions(table, state, position + 1)
+        }
+        _ => position,
     }
 }
 
-// The parameters of a header, from a position on.
-pub fn params(table: &Table, names: &Names, position: usize) -> Brought
-    ensures { ParamsIn table.now names.now position result }
+// The parameters of a header come into scope, from a position on; the answer is the position behind them.
+pub fn params(table: &Table, state: &mut State, position: usize) -> usize
+    ensures { ParamsIn table.now state.old state.new position result }
 {
     match command_at(table, position) {
-        Some(command) => match command {
-            Item::Parameter(name) => {
-                let more = names.with_variable(name, Sort::Written(position + 1));
-                params(table, &more, type_end(table, position + 1))
-            }
-            _ => Brought {
-                names: *names,
-                position,
-            },
-        },
-        None => Brought {
-            names: *names,
-            position,
-        },
+        Some(Item::Parameter(name)) => {
+            state.add_variable(name, Sort::Written(position + 1));
+            params(table, state, type_end(table, position + 1))
+        }
+        _ => position,
     }
 }
 
 // A header: what it brings into scope, and the positions of the result's type and of the block.
 #[derive(Clone, Copy)]
 pub struct Header {
-    pub names: Names,
+    pub state: State,
     pub result: usize,
     pub body: usize,
 }
@@ -93,11 +70,12 @@ pub struct Header {
 pub fn read_header(table: &Table, position: usize) -> Header
     ensures { HeaderWalk table.now position result }
 {
-    let opened = regions(table, &Names::new(), behind(table, position));
-    let bound = params(table, &opened.names, opened.position);
-    let result = behind(table, bound.position);
+    let mut state = State::new();
+    let opened = regions(table, &mut state, behind(table, position));
+    let bound = params(table, &mut state, opened);
+    let result = behind(table, bound);
     Header {
-        names: bound.names,
+        state,
         result,
         body: type_end(table, result),
     }

@@ -2,49 +2,38 @@
 ghost use Rattle.std.specs.Prelude.{◌≤◌};
 ghost use Rattle.resolving.specs.Walks.{ListRegion, SplitNames};
 
-use crate::headers::Brought;
 use crate::names::Names;
 use draft::command::Command as Item;
 use draft::table::Table;
 use scope::command::command_at;
+use scope::state::State;
 use scope::types::{Sort, head};
 
 // The slot of the region of a list.
-pub fn list_region(table: &Table, names: &Names, sort: Sort) -> usize
-    ensures { ListRegion table.now names.now sort result }
+pub fn list_region(names: &Names<'_>, sort: Sort) -> usize
+    ensures { ListRegion names.now.table.now names.now.state sort result }
 {
-    match head(table, sort) {
-        Some((region, _)) => names.region(table, region),
+    match head(names.table, sort) {
+        Some((region, _)) => names.region(region),
         None => 0,
     }
 }
 
-// The names for head and tail at a position come into scope.
-pub fn split_names(table: &Table, names: &Names, sort: Sort, position: usize) -> Brought
-    ensures onward { position ≤ result.position }
-    ensures walks { SplitNames table.now names.now sort position result }
+// The names for head and tail at a position come into scope; the answer is the position behind them.
+pub fn split_names(table: &Table, state: &mut State, sort: Sort, position: usize) -> usize
+    ensures onward { position ≤ result }
+    ensures walks { SplitNames table.now state.old state.new sort position result }
 {
     match command_at(table, position) {
-        Some(command) => match command {
-            Item::CaseNames(first, rest) => {
-                let elements = match head(table, sort) {
-                    Some((_, inner)) => inner,
-                    None => Sort::Int,
-                };
-                let one = names.with_variable(first, elements);
-                Brought {
-                    names: one.with_variable(rest, sort),
-                    position: position + 1,
-                }
-            }
-            _ => Brought {
-                names: *names,
-                position,
-            },
-        },
-        None => Brought {
-            names: *names,
-            position,
-        },
+        Some(Item::CaseNames(first, rest)) => {
+            let elements = match head(table, sort) {
+                Some((_, inner)) => inner,
+                None => Sort::Int,
+            };
+            state.add_variable(first, elements);
+            state.add_variable(rest, sort);
+            position + 1
+        }
+        _ => position,
     }
 }

@@ -7,13 +7,20 @@ use crate::atoms::atom;
 use crate::calls::{argue, hand, seek_function};
 use crate::headers::{behind, read_header, type_end};
 use crate::names::Names;
-use crate::tape::Tape;
 use draft::command::{Name, Operator};
-use draft::table::Table;
+use program::code::Tape;
 use program::command::Command;
+use scope::name::bytes_of;
 use scope::types::Sort;
 
-// Where a part ends, and its type.
+// Where a part starts: a command stands there.
+#[derive(Clone, Copy)]
+pub struct Start {
+    pub position: usize,
+    ghost within: { position < 4096 },
+}
+
+// Where a part ends, and its type. It does not know where the part began, so each walk says for itself that it goes onward.
 #[derive(Clone, Copy)]
 pub struct End {
     pub position: usize,
@@ -21,38 +28,35 @@ pub struct End {
 }
 
 // An atom as a right side.
-pub fn copy(table: &Table, names: &Names, tape: &mut Tape, position: usize) -> End
-    requires { position < 4096 }
-    ensures onward { position ≤ result.position }
-    ensures walks { AtomWalk table.now names.now tape.old tape.new position result }
+pub fn copy(names: &Names<'_>, tape: &mut Tape, start: Start) -> End
+    ensures onward { start.position ≤ result.position }
+    ensures walks { AtomWalk names.now.table.now names.now.state tape.old.items tape.new.items start.position result }
 {
-    let known = atom(table, names, position);
-    let slot = names.free_slot();
+    let known = atom(names, start.position);
+    let slot = names.state.variables.len();
     tape.push(Command::Move {
         operand: known.operand,
         slot,
     });
     End {
-        position: position + 1,
+        position: start.position + 1,
         sort: known.sort,
     }
 }
 
 pub fn operate(
-    table: &Table,
-    names: &Names,
+    names: &Names<'_>,
     tape: &mut Tape,
-    position: usize,
+    start: Start,
     place: usize,
     operator: Operator,
 ) -> End
-    requires { position < 4096 }
-    ensures onward { position ≤ result.position }
-    ensures walks { Stands table.now position (an_operation place (operator_said operator)) → RightWalk table.now names.now tape.old tape.new position result }
+    ensures onward { start.position ≤ result.position }
+    ensures walks { Stands names.now.table.now start.position (an_operation place (operator_said operator)) → RightWalk names.now.table.now names.now.state tape.old.items tape.new.items start.position result }
 {
-    let first = atom(table, names, position + 1);
-    let second = atom(table, names, position + 2);
-    let slot = names.free_slot();
+    let first = atom(names, start.position + 1);
+    let second = atom(names, start.position + 2);
+    let slot = names.state.variables.len();
     tape.push(Command::Operate {
         place,
         operator,
@@ -61,47 +65,31 @@ pub fn operate(
         slot,
     });
     End {
-        position: position + 3,
+        position: start.position + 3,
         sort: Sort::Int,
     }
 }
 
-pub fn nil(
-    table: &Table,
-    names: &Names,
-    tape: &mut Tape,
-    position: usize,
-    place: usize,
-    region: Name,
-) -> End
-    requires { position < 4096 }
-    ensures onward { position ≤ result.position }
-    ensures walks { Stands table.now position (a_nil place (ident (text_of table.now) region)) → RightWalk table.now names.now tape.old tape.new position result }
+pub fn nil(names: &Names<'_>, tape: &mut Tape, start: Start, place: usize, region: Name) -> End
+    ensures onward { start.position ≤ result.position }
+    ensures walks { Stands names.now.table.now start.position (a_nil place (ident (text_of names.now.table.now) region)) → RightWalk names.now.table.now names.now.state tape.old.items tape.new.items start.position result }
 {
-    let slot = names.free_slot();
+    let slot = names.state.variables.len();
     tape.push(Command::Nil { slot });
     End {
-        position: type_end(table, position + 1),
-        sort: Sort::Written(position),
+        position: type_end(names.table, start.position + 1),
+        sort: Sort::Written(start.position),
     }
 }
 
-pub fn cons(
-    table: &Table,
-    names: &Names,
-    tape: &mut Tape,
-    position: usize,
-    place: usize,
-    region: Name,
-) -> End
-    requires { position < 4096 }
-    ensures onward { position ≤ result.position }
-    ensures walks { Stands table.now position (a_cons place (ident (text_of table.now) region)) → RightWalk table.now names.now tape.old tape.new position result }
+pub fn cons(names: &Names<'_>, tape: &mut Tape, start: Start, place: usize, region: Name) -> End
+    ensures onward { start.position ≤ result.position }
+    ensures walks { Stands names.now.table.now start.position (a_cons place (ident (text_of names.now.table.now) region)) → RightWalk names.now.table.now names.now.state tape.old.items tape.new.items start.position result }
 {
-    let head = atom(table, names, position + 1);
-    let tail = atom(table, names, position + 2);
-    let target = names.region(table, region);
-    let slot = names.free_slot();
+    let head = atom(names, start.position + 1);
+    let tail = atom(names, start.position + 2);
+    let target = names.region(region);
+    let slot = names.state.variables.len();
     tape.push(Command::Cons {
         place,
         region: target,
@@ -110,36 +98,28 @@ pub fn cons(
         slot,
     });
     End {
-        position: position + 3,
+        position: start.position + 3,
         sort: tail.sort,
     }
 }
 
-pub fn call(
-    table: &Table,
-    names: &Names,
-    tape: &mut Tape,
-    position: usize,
-    place: usize,
-    name: Name,
-) -> End
-    requires { position < 4096 }
-    ensures onward { position ≤ result.position }
-    ensures walks { Stands table.now position (a_call place (ident (text_of table.now) name)) → RightWalk table.now names.now tape.old tape.new position result }
+pub fn call(names: &Names<'_>, tape: &mut Tape, start: Start, place: usize, name: Name) -> End
+    ensures onward { start.position ≤ result.position }
+    ensures walks { Stands names.now.table.now start.position (a_call place (ident (text_of names.now.table.now) name)) → RightWalk names.now.table.now names.now.state tape.old.items tape.new.items start.position result }
 {
-    let callee = seek_function(table, name, 0, 0);
-    let header = read_header(table, callee.header);
-    let declared = behind(table, callee.header);
-    let slot = names.free_slot();
+    let callee = seek_function(names.table, bytes_of(names.table, name), 0, 0);
+    let header = read_header(names.table, callee.header);
+    let declared = behind(names.table, callee.header);
+    let slot = names.state.variables.len();
     tape.push(Command::Call {
         place,
         function: callee.index,
         slot,
     });
-    let handed = hand(table, names, tape, position + 1);
-    let end = argue(table, names, tape, handed);
+    let handed = hand(names, tape, start.position + 1);
+    let end = argue(names, tape, handed);
     End {
         position: end,
-        sort: Sort::Called(header.result, declared, position + 1),
+        sort: Sort::Called(header.result, declared, start.position + 1),
     }
 }

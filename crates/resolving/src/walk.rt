@@ -6,52 +6,47 @@ ghost use Rattle.resolving.specs.Walks.{Stands, RightWalk, BlockWalk};
 use crate::atoms::atom;
 use crate::lists::{list_region, split_names};
 use crate::names::Names;
-use crate::rights::{End, call, cons, copy, nil, operate};
-use crate::tape::Tape;
+use crate::rights::{End, Start, call, cons, copy, nil, operate};
 use draft::command::{Command as Item, Name};
-use draft::table::Table;
+use program::code::Tape;
 use program::command::{Command, Way};
 use scope::command::command_at;
 use scope::types::Sort;
 
 // The block at a position, with its way out.
 #[cycle(block_choose_open_right_split)]
-pub fn block(table: &Table, names: &Names, tape: &mut Tape, position: usize, way: Way) -> End
+pub fn block(names: &Names<'_>, tape: &mut Tape, position: usize, way: Way) -> End
     ensures onward { position ≤ result.position }
-    ensures walks { BlockWalk table.now names.now tape.old tape.new position way result }
+    ensures walks { BlockWalk names.now.table.now names.now.state tape.old.items tape.new.items position way result }
 {
-    match command_at(table, position) {
-        Some(command) => match command {
-            Item::Let(name) => {
-                let value = right(table, names, tape, position + 1);
-                let more = names.with_variable(name, value.sort);
-                block(table, &more, tape, value.position, way)
+    match command_at(names.table, position) {
+        Some(Item::Let(name)) => {
+            let value = right(names, tape, position + 1);
+            let mut state = names.state;
+            state.add_variable(name, value.sort);
+            let more = Names { state, ..*names };
+            block(&more, tape, value.position, way)
+        }
+        Some(Item::Print(place)) => {
+            let known = atom(names, position + 1);
+            tape.push(Command::Print {
+                place,
+                operand: known.operand,
+            });
+            block(names, tape, position + 2, way)
+        }
+        Some(Item::Last) => {
+            let known = atom(names, position + 1);
+            tape.push(Command::Finish {
+                operand: known.operand,
+                way,
+            });
+            End {
+                position: position + 2,
+                sort: known.sort,
             }
-            Item::Print(place) => {
-                let known = atom(table, names, position + 1);
-                tape.push(Command::Print {
-                    place,
-                    operand: known.operand,
-                });
-                block(table, names, tape, position + 2, way)
-            }
-            Item::Last => {
-                let known = atom(table, names, position + 1);
-                tape.push(Command::Finish {
-                    operand: known.operand,
-                    way,
-                });
-                End {
-                    position: position + 2,
-                    sort: known.sort,
-                }
-            }
-            _ => End {
-                position,
-                sort: Sort::Int,
-            },
-        },
-        None => End {
+        }
+        _ => End {
             position,
             sort: Sort::Int,
         },
@@ -60,58 +55,58 @@ pub fn block(table: &Table, names: &Names, tape: &mut Tape, position: usize, way
 
 // The right side at a position.
 #[cycle(block_choose_open_right_split)]
-fn right(table: &Table, names: &Names, tape: &mut Tape, position: usize) -> End
+fn right(names: &Names<'_>, tape: &mut Tape, position: usize) -> End
     ensures onward { position ≤ result.position }
-    ensures walks { RightWalk table.now names.now tape.old tape.new position result }
+    ensures walks { RightWalk names.now.table.now names.now.state tape.old.items tape.new.items position result }
 {
-    match command_at(table, position) {
-        Some(command) => match command {
-            Item::Operate(place, operator) => operate(
-                table, names, tape, position, place, operator,
-            ),
-            Item::Nil(place, region) => nil(table, names, tape, position, place, region),
-            Item::Cons(place, region) => cons(table, names, tape, position, place, region),
-            Item::Call(place, name) => call(table, names, tape, position, place, name),
-            Item::If(place) => choose(table, names, tape, position, place),
-            Item::Region(place, name) => open(table, names, tape, position, place, name),
-            Item::Case(place) => split(table, names, tape, position, place),
-            _ => copy(table, names, tape, position),
-        },
-        None => End {
+    let Some(command) = command_at(names.table, position) else {
+        return End {
             position,
             sort: Sort::Int,
-        },
+        };
+    };
+    let start = Start { position };
+    match command {
+        Item::Operate(place, operator) => operate(names, tape, start, place, operator),
+        Item::Nil(place, region) => nil(names, tape, start, place, region),
+        Item::Cons(place, region) => cons(names, tape, start, place, region),
+        Item::Call(place, name) => call(names, tape, start, place, name),
+        Item::If(place) => choose(names, tape, start, place),
+        Item::Region(place, name) => open(names, tape, start, place, name),
+        Item::Case(place) => split(names, tape, start, place),
+        _ => copy(names, tape, start),
     }
 }
 
+// An `if` and a `case` stay two functions: the second block of a `case` has names of its own before it and in scope.
 #[cycle(block_choose_open_right_split)]
-fn choose(table: &Table, names: &Names, tape: &mut Tape, position: usize, place: usize) -> End
-    requires { position < 4096 }
-    ensures onward { position ≤ result.position }
-    ensures walks { Stands table.now position (an_if place) → RightWalk table.now names.now tape.old tape.new position result }
+fn choose(names: &Names<'_>, tape: &mut Tape, start: Start, place: usize) -> End
+    ensures onward { start.position ≤ result.position }
+    ensures walks { Stands names.now.table.now start.position (an_if place) → RightWalk names.now.table.now names.now.state tape.old.items tape.new.items start.position result }
 {
-    let known = atom(table, names, position + 1);
-    let slot = names.free_slot();
-    let at = tape.count;
+    let known = atom(names, start.position + 1);
+    let slot = names.state.variables.len();
+    let at = tape.len();
     tape.push(Command::If {
         operand: known.operand,
         second: at,
     });
-    let middle = block(table, names, tape, position + 2, Way::Return);
-    let second = tape.count;
-    block(table, names, tape, middle.position, Way::Return);
+    let middle = block(names, tape, start.position + 2, Way::Return);
+    let second = tape.len();
+    block(names, tape, middle.position, Way::Return);
+    let next = tape.len();
     let way = Way::Leave {
-        next: tape.count,
+        next,
         slot,
         closes: false,
     };
-    tape.rewind(at);
+    tape.truncate(at);
     tape.push(Command::If {
         operand: known.operand,
         second,
     });
-    let first = block(table, names, tape, position + 2, way);
-    let last = block(table, names, tape, first.position, way);
+    let first = block(names, tape, start.position + 2, way);
+    let last = block(names, tape, first.position, way);
     End {
         position: last.position,
         sort: first.sort,
@@ -119,68 +114,65 @@ fn choose(table: &Table, names: &Names, tape: &mut Tape, position: usize, place:
 }
 
 #[cycle(block_choose_open_right_split)]
-fn open(
-    table: &Table,
-    names: &Names,
-    tape: &mut Tape,
-    position: usize,
-    place: usize,
-    name: Name,
-) -> End
-    requires { position < 4096 }
-    ensures onward { position ≤ result.position }
-    ensures walks { Stands table.now position (a_region place (ident (text_of table.now) name)) → RightWalk table.now names.now tape.old tape.new position result }
+fn open(names: &Names<'_>, tape: &mut Tape, start: Start, place: usize, name: Name) -> End
+    ensures onward { start.position ≤ result.position }
+    ensures walks { Stands names.now.table.now start.position (a_region place (ident (text_of names.now.table.now) name)) → RightWalk names.now.table.now names.now.state tape.old.items tape.new.items start.position result }
 {
-    let slot = names.free_slot();
-    let region = names.free_region();
-    let inner = names.with_region(name);
-    let at = tape.count;
+    let slot = names.state.variables.len();
+    let region = names.state.regions.len();
+    let mut state = names.state;
+    state.add_region(name);
+    let inner = Names { state, ..*names };
+    let at = tape.len();
     tape.push(Command::Open { place, region });
-    block(table, &inner, tape, position + 1, Way::Return);
+    block(&inner, tape, start.position + 1, Way::Return);
+    let next = tape.len();
     let way = Way::Leave {
-        next: tape.count,
+        next,
         slot,
         closes: true,
     };
-    tape.rewind(at);
+    tape.truncate(at);
     tape.push(Command::Open { place, region });
-    block(table, &inner, tape, position + 1, way)
+    block(&inner, tape, start.position + 1, way)
 }
 
 #[cycle(block_choose_open_right_split)]
-fn split(table: &Table, names: &Names, tape: &mut Tape, position: usize, place: usize) -> End
-    requires { position < 4096 }
-    ensures onward { position ≤ result.position }
-    ensures walks { Stands table.now position (a_case place) → RightWalk table.now names.now tape.old tape.new position result }
+fn split(names: &Names<'_>, tape: &mut Tape, start: Start, place: usize) -> End
+    ensures onward { start.position ≤ result.position }
+    ensures walks { Stands names.now.table.now start.position (a_case place) → RightWalk names.now.table.now names.now.state tape.old.items tape.new.items start.position result }
 {
-    let known = atom(table, names, position + 1);
-    let slot = names.free_slot();
-    let region = list_region(table, names, known.sort);
-    let at = tape.count;
+    let known = atom(names, start.position + 1);
+    let slot = names.state.variables.len();
+    let region = list_region(names, known.sort);
+    let at = tape.len();
     tape.push(Command::Case {
         operand: known.operand,
         region,
         second: at,
         head: slot,
     });
-    let middle = block(table, names, tape, position + 2, Way::Return);
-    let second = tape.count;
-    let inner = split_names(table, names, known.sort, middle.position);
-    block(table, &inner.names, tape, inner.position, Way::Return);
+    let middle = block(names, tape, start.position + 2, Way::Return);
+    let second = tape.len();
+    let mut state = names.state;
+    let other = split_names(names.table, &mut state, known.sort, middle.position);
+    let inner = Names { state, ..*names };
+    block(&inner, tape, other, Way::Return);
+    let next = tape.len();
     let way = Way::Leave {
-        next: tape.count,
+        next,
         slot,
         closes: false,
     };
-    tape.rewind(at);
+    tape.truncate(at);
     tape.push(Command::Case {
         operand: known.operand,
         region,
         second,
         head: slot,
     });
-    let first = block(table, names, tape, position + 2, way);
-    let last = block(table, &inner.names, tape, inner.position, way);
+    let first = block(names, tape, start.position + 2, way);
+    let last = block(&inner, tape, other, way);
     End {
         position: last.position,
         sort: first.sort,

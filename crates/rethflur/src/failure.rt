@@ -1,16 +1,23 @@
 // Why a command ends with status 1.
+use lexing::fault::Fault;
 use std::alloc::{AllocError, AllocFailed};
 use std::{fmt, io};
 
 #[derive(Drop)]
 pub(crate) enum Failure {
-    // The message is out already.
-    Shown,
+    // The script fails a question: shown with its line by whoever has the script, so that its number alone is said here.
+    Refused(Fault),
     UnknownWord(String),
     TooManyWords(String),
     NoFile(String, io::Error),
     Stream(io::Error),
     Memory,
+}
+
+impl From<Fault> for Failure {
+    fn from(fault: Fault) -> Failure {
+        Failure::Refused(fault)
+    }
 }
 
 impl From<io::Error> for Failure {
@@ -34,7 +41,7 @@ impl<T: Drop> From<AllocFailed<T>> for Failure {
 impl fmt::Display for Failure {
     fn fmt<W: fmt::Write>(&self, f: &mut fmt::Formatter<W>) -> fmt::Result {
         match self {
-            Failure::Shown => Ok(()),
+            Failure::Refused(fault) => write!(f, "refused {}", fault.question.number()),
             Failure::UnknownWord(word) => write!(
                 f,
                 "unknown command '{word}'; 'rethflur --help' lists the commands"

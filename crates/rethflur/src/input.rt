@@ -13,6 +13,7 @@ impl Script {
     // From the file, or from standard input where none is named.
     pub(crate) fn read(rt: &HostRuntime, file: Option<String>) -> Result<Script, Failure> {
         match file {
+            // The name goes into whichever of both is answered.
             Some(name) => match fs::read(rt, name.as_str()) {
                 Ok(text) => Ok(Script { name, text }),
                 Err(e) => Err(Failure::NoFile(name, e)),

@@ -31,23 +31,40 @@ FILE:LINE:COLUMN: refused N: and the question that it fails, with the line and a
 place, and the exit status is 1.
 ";
 
-fn run(rt: &HostRuntime) -> Result<(), Failure> {
-    match command::parse(rt)? {
-        Command::Help => {
-            rt.print(HELP)?;
-            Ok(())
+// Reads a script and does with it what the command asks; a refusal is shown with the line that it is about.
+fn on_script<F: FnOnce(&HostRuntime, &Script) -> Result<(), Failure>>(
+    rt: &HostRuntime,
+    file: Option<String>,
+    act: F,
+) -> Result<ExitCode, Failure>
+    requires { F.IsAlwaysCallable act }
+{
+    let script = Script::read(rt, file)?;
+    // A refusal alone is shown here, and any other failure goes on as it is.
+    match act(rt, &script) {
+        Ok(()) => Ok(ExitCode::SUCCESS),
+        Err(Failure::Refused(fault)) => {
+            refusal::show(rt, &script, fault)?;
+            Ok(ExitCode::FAILURE)
         }
-        Command::Tokens(file) => tokens::list(rt, &Script::read(rt, file)?),
-        Command::Check(file) => verdict::check_script(rt, &Script::read(rt, file)?),
-        Command::Batch => Ok(script_shell::serve(rt)?),
-        Command::Store => Ok(store_shell::shell::serve(rt)?),
+        Err(failure) => Err(failure),
     }
+}
+
+fn run(rt: &HostRuntime) -> Result<ExitCode, Failure> {
+    match command::parse(rt)? {
+        Command::Help => rt.print(HELP)?,
+        Command::Tokens(file) => return on_script(rt, file, tokens::list),
+        Command::Check(file) => return on_script(rt, file, verdict::check_script),
+        Command::Batch => script_shell::serve(rt)?,
+        Command::Store => store_shell::shell::serve(rt)?,
+    }
+    Ok(ExitCode::SUCCESS)
 }
 
 fn main(rt: HostRuntime) -> ExitCode {
     match run(&rt) {
-        Ok(()) => ExitCode::SUCCESS,
-        Err(Failure::Shown) => ExitCode::FAILURE,
+        Ok(code) => code,
         Err(failure) => {
             let _ = eprintln!(rt; "rethflur: {failure}");
             ExitCode::FAILURE

@@ -1,5 +1,5 @@
 // The outline of a script that was read: each function's header as the text writes it.
-use lexing::lex::token_at;
+use lexing::tokens::Tokens;
 use std::io;
 use std::str::from_utf8;
 
@@ -10,24 +10,21 @@ fn header(rt: &HostRuntime, text: &[u8], start: usize, end: usize) -> io::Result
 }
 
 // Prints the header of each function: from behind `fun` to its block's brace.
-pub(crate) fn outline(rt: &HostRuntime, text: &[u8], tokens: usize) -> io::Result<()> {
-    let mut rest = text;
+pub(crate) fn outline(rt: &HostRuntime, text: &[u8]) -> io::Result<()> {
     let mut start = None;
-    for _ in 0..tokens {
-        let Ok((token, behind)) = token_at(rest, text.len().saturating_sub(rest.len())) else {
+    for token in Tokens::new(text) {
+        let Ok(token) = token else {
             return Ok(());
         };
         match token.bytes {
             b"fun" => start = Some(token.place.saturating_add(3)),
             b"{" => {
-                if let Some(place) = start {
+                if let Some(place) = start.take() {
                     header(rt, text, place, token.place)?;
                 }
-                start = None;
             }
             _ => {}
         }
-        rest = behind;
     }
     Ok(())
 }

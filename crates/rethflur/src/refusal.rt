@@ -4,44 +4,45 @@ use crate::input::Script;
 use lexing::fault::{Fault, Question};
 use report::locate::locate;
 use std::alloc::{AllocError, Global};
+use std::fmt;
 
-fn question_words(question: Question) -> &'static str {
-    match question {
-        Question::TextLength => "the text has more than 16384 bytes",
-        Question::FirstByte => "no token begins with this byte",
-        Question::NumeralFits =>
-            "the numeral does not fit 32 signed bits, or a letter or underscore stands directly behind it",
-        Question::NameLength => "the name has more than 24 bytes",
-        Question::TokenCount => "the text has more than 4096 tokens",
-        Question::Grammar => "this token cannot continue the script",
-        Question::Nesting =>
-            "the block is nested more than 8 deep, or the type's list inside more than 4 others",
-        Question::NewFunction => "an earlier function has this name",
-        Question::MainFunction =>
-            "there is no main without regions, with one int parameter and an int result",
-        Question::Room =>
-            "this is one more than 64 functions, 8 parameters, 8 regions in scope or 32 variables in scope",
-        Question::KnownName => "this name is not known here",
-        Question::NewName => "a variable or a region of this name is in scope",
-        Question::NeededType => "the atom does not have the type that is needed here",
-        Question::ClosedRegion => "the type of the region's block mentions the region",
-        Question::TypeDepth => "the type is nested more than 5 deep",
-        Question::CallShape => "the function has another number of regions or parameters",
+// A question in the words of a refusal.
+#[derive(Clone, Copy)]
+struct Words(Question);
+
+impl fmt::Display for Words {
+    fn fmt<W: fmt::Write>(&self, f: &mut fmt::Formatter<W>) -> fmt::Result {
+        f.write_str(match self.0 {
+            Question::TextLength => "the text has more than 16384 bytes",
+            Question::FirstByte => "no token begins with this byte",
+            Question::NumeralFits =>
+                "the numeral does not fit 32 signed bits, or a letter or underscore stands directly behind it",
+            Question::NameLength => "the name has more than 24 bytes",
+            Question::TokenCount => "the text has more than 4096 tokens",
+            Question::Grammar => "this token cannot continue the script",
+            Question::Nesting =>
+                "the block is nested more than 8 deep, or the type's list inside more than 4 others",
+            Question::NewFunction => "an earlier function has this name",
+            Question::MainFunction =>
+                "there is no main without regions, with one int parameter and an int result",
+            Question::Room =>
+                "this is one more than 64 functions, 8 parameters, 8 regions in scope or 32 variables in scope",
+            Question::KnownName => "this name is not known here",
+            Question::NewName => "a variable or a region of this name is in scope",
+            Question::NeededType => "the atom does not have the type that is needed here",
+            Question::ClosedRegion => "the type of the region's block mentions the region",
+            Question::TypeDepth => "the type is nested more than 5 deep",
+            Question::CallShape => "the function has another number of regions or parameters",
+        })
     }
 }
 
-// The line in which the byte at `place` stands, without its line feed.
-fn line_at(text: &[u8], place: usize) -> &[u8] {
-    let place = place.min(text.len());
-    let mut start = place;
-    while start > 0 && text[start - 1] != b'\n' {
-        start -= 1;
-    }
-    let mut end = place;
-    while end < text.len() && text[end] != b'\n' {
-        end += 1;
-    }
-    &text[start..end]
+// The line in which the byte at `place` stands, without its line feed: the bytes before that byte, and those from it on.
+fn line_at(text: &[u8], place: usize) -> (&[u8], &[u8]) {
+    let (front, rest) = text.split_at(place.min(text.len()));
+    let before = front.rsplit(|byte| *byte == b'\n').next();
+    let behind = rest.split(|byte| *byte == b'\n').next();
+    (before.unwrap_or(&[]), behind.unwrap_or(&[]))
 }
 
 // One column for each byte: a byte that does not print is shown as a question mark.
@@ -55,17 +56,15 @@ fn shown(byte: u8) -> char {
 // The message about a text that was refused, with a line feed at its end.
 fn message(heap: Global, name: &str, text: &[u8], fault: Fault) -> Result<String, AllocError> {
     let at = locate(text, fault.place);
-    let line = at.line;
-    let column = at.column;
     let number = fault.question.number();
-    let words = question_words(fault.question);
-    let mut out = format!(in heap; "{name}:{line}:{column}: refused {number}: {words}\n")?;
-    let source = line_at(text, fault.place);
-    for byte in source {
+    let words = Words(fault.question);
+    let mut out = format!(in heap; "{name}:{at}: refused {number}: {words}\n")?;
+    let (before, behind) = line_at(text, fault.place);
+    for byte in before.iter().chain(behind) {
         out.push(shown(*byte))?;
     }
     out.push('\n')?;
-    for byte in source.iter().take(column.saturating_sub(1)) {
+    for byte in before {
         out.push(if *byte == b'\t' { '\t' } else { ' ' })?;
     }
     out.push_str("^\n")?;
@@ -73,15 +72,11 @@ fn message(heap: Global, name: &str, text: &[u8], fault: Fault) -> Result<String
 }
 
 // Prints the message on standard error.
-pub(crate) fn refuse(rt: &HostRuntime, script: &Script, fault: Fault) -> Result<(), Failure> {
-    let text = message(
-        rt.alloc(),
-        script.name.as_str(),
-        script.text.as_slice(),
-        fault,
-    )?;
-    rt.stderr().print(text)?;
-    Err(Failure::Shown)
+pub(crate) fn show(rt: &HostRuntime, script: &Script, fault: Fault) -> Result<(), Failure> {
+    let name = script.name.as_str();
+    let text = script.text.as_slice();
+    rt.stderr().print(message(rt.alloc(), name, text, fault)?)?;
+    Ok(())
 }
 
 #[cfg(test)]

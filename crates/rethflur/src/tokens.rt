@@ -1,50 +1,28 @@
 // The table of a script's tokens.
 use crate::failure::Failure;
 use crate::input::Script;
-use crate::refusal::refuse;
-use lexing::lex::token_at;
 use lexing::scan::scan;
-use lexing::token::{Kind, Token};
+use lexing::token::Token;
+use lexing::tokens::Tokens;
 use report::locate::locate;
 use std::io;
 use std::str::from_utf8;
 
-fn kind_word(kind: Kind) -> &'static str {
-    match kind {
-        Kind::End => "end",
-        Kind::Name => "name",
-        Kind::Keyword => "keyword",
-        Kind::Numeral => "numeral",
-        Kind::Mark => "mark",
-    }
-}
-
 fn row(rt: &HostRuntime, text: &[u8], token: Token<'_>) -> io::Result<()> {
-    let at = locate(text, token.place);
-    let position = format!(in rt.alloc(); "{}:{}", at.line, at.column)?;
+    let position = format!(in rt.alloc(); "{}", locate(text, token.place))?;
     let place = token.place;
-    let kind = kind_word(token.kind);
+    let kind = token.kind;
     let bytes = from_utf8(token.bytes).unwrap_or("?");
     println!(rt; "{position:<9} {place:>5}  {kind:<7}  {bytes}")
 }
 
-// Lists the tokens of a script, and how many there are; or says why it is refused.
+// Lists the tokens of a script, and how many there are, where it passes the questions about tokens.
 pub(crate) fn list(rt: &HostRuntime, script: &Script) -> Result<(), Failure> {
     let text = script.text.as_slice();
-    let count = match scan(text) {
-        Ok(count) => count,
-        Err(fault) => return refuse(rt, script, fault),
-    };
+    let count = scan(text)?;
     println!(rt; "line:col  place  kind     text")?;
-    let mut rest = text;
-    for _ in 0..count {
-        match token_at(rest, text.len().saturating_sub(rest.len())) {
-            Ok((token, behind)) => {
-                row(rt, text, token)?;
-                rest = behind;
-            }
-            Err(fault) => return refuse(rt, script, fault),
-        }
+    for token in Tokens::new(text) {
+        row(rt, text, token?)?;
     }
     println!(rt; "{count} tokens")?;
     Ok(())

@@ -1,8 +1,6 @@
 -- A part of a list that may reach behind its end.
-use Rattle.std.proofs.Common.{◌≡◌, ℕ, ◌≤◌, min, Bool, true, false, leb, List, length, take, drop, Decides, sym, refl, ap, ◌∙◌, le_of_lt, take_all, leb-false, leb-true}
+use Rattle.std.proofs.Common.{◌≡◌, ℕ, ◌≤◌, min, Bool, true, false, leb, List, length, take, drop, sym, refl, ap, ◌∙◌, le_of_lt, take_all, leb-false, leb-true}
 use native.Mathlib.Nat.{min-eq_left, min-eq_right}
-use Rattle.lexing.specs.Tokens.{same_bytes}
-use Rattle.language.proofs.Names.{same-bytes_is, same-bytes_refl}
 use lib.Seq.{take-length, drop-length}
 use Rattle.std.proofs.lemmas.List.{drop_all}
 
@@ -23,13 +21,3 @@ drop-by n xs false t =
 
 pub drop_min : {A : Type 0} (n : ℕ) (xs : List A) → drop (min n (length xs)) xs ≡ drop n xs
 drop_min n xs = drop-by n xs (leb n (length xs)) refl
-
-same-as : (xs ys : List ℕ) (r v : Bool) → same_bytes xs ys ≡ v → Decides r (xs ≡ ys) → r ≡ same_bytes xs ys
-same-as xs ys true true e d = sym e
-same-as xs ys false false e d = sym e
-same-as xs ys true false e d = sym (ap (same_bytes xs) (sym (d.0 refl)) ∙ same-bytes_refl xs)
-same-as xs ys false true e d = d.1 (same-bytes_is xs ys e) ∙ sym e
-
--- a test that decides whether lists are equal is the test of their bytes
-pub same_by : (xs ys : List ℕ) (r : Bool) → Decides r (xs ≡ ys) → r ≡ same_bytes xs ys
-same_by xs ys r d = same-as xs ys r (same_bytes xs ys) refl d

@@ -1,27 +1,48 @@
--- The search from the left, step by step.
-use Rattle.std.proofs.Common.{◌≡◌, ℕ, suc, ◌+◌, ◌<◌, ◌≤◌, Bool, true, false, List, length, get_or, drop, Some, None, Option, sym, ap, ◌∙◌, add-one, drop-cons}
-use Rattle.std.proofs.lemmas.List.{drop_all}
+-- The first place at which an entry bears a name.
+use Rattle.std.proofs.Common.{◌≡◌, ℕ, suc, ◌+◌, ◌<◌, Bool, true, false, cond, not, ltb, List, [], ◌∷◌, length, get_or, Some, None, refl, sym, subst, arith, lt-ltb, ltb-false, unwrap_or, MatchOption}
+use Rattle.std.specs.List.{position_or_len}
+use Rattle.std.proofs.lemmas.List.Sums.{prefix_len-le-length}
 use Rattle.lexing.specs.Tokens.{same_bytes}
 use Rattle.language.specs.Types.{Name}
 use Rattle.language.specs.Scope.{find}
+use Rattle.scope.specs.Searches.{First}
 
--- one entry, by its test
-stepped : {A : Type 0} (key : A → Name) (n : Name) (es : List A) (i : ℕ) (e d : A) (v : Bool) → i < length es → e ≡ get_or es i d → same_bytes (key e) n ≡ v
-    → find key n es ≡ find key n (drop i es) → find key n es ≡ elim v as (λ _. Option A) [ true ↦ Some (get_or es i d) | false ↦ find key n (drop (suc i) es) ]
-stepped {A} key n es i e d v h x t k =
-    let F : Bool → Option A = λ b. elim b [ true ↦ Some (get_or es i d) | false ↦ find key n (drop (suc i) es) ] in
-    k ∙ ap (find key n) (drop-cons es i d h) ∙ ap F (ap (λ y. same_bytes (key y) n) (sym x) ∙ t)
+behind : {A : Type 0} (key : A → Name) (n : Name) (e : A) (es : List A) (b : Bool) (p : ℕ)
+    → MatchOption (cond b (Some p) None) (find key n es ≡ None) (λ i. First key n es i)
+    → MatchOption (cond b (Some (suc p)) None) (find key n es ≡ None) (λ i. (i < suc (length es)) × ((d : A) → find key n es ≡ Some (get_or (e ∷ es) i d)))
+behind key n e es true p h = (omega (arith, h.0), λ d. h.1 d)
+behind key n e es false p h = h
 
--- an entry of the name is the first one
-pub hit : {A : Type 0} (key : A → Name) (n : Name) (es : List A) (i : ℕ) (e d : A) → i < length es → e ≡ get_or es i d → same_bytes (key e) n ≡ true
-    → find key n es ≡ find key n (drop i es) → find key n es ≡ Some (get_or es i d)
-hit key n es i e d h x t k = stepped key n es i e d true h x t k
+ltb-suc : (p n : ℕ) → ltb p n ≡ ltb (suc p) (suc n)
+ltb-suc p n = grind arith
 
--- an entry of another name is passed
-pub passed : {A : Type 0} (key : A → Name) (n : Name) (es : List A) (i : ℕ) (e d : A) → i < length es → e ≡ get_or es i d → same_bytes (key e) n ≡ false
-    → find key n es ≡ find key n (drop i es) → find key n es ≡ find key n (drop (i + 1) es)
-passed key n es i e d h x t k = stepped key n es i e d false h x t k ∙ ap (λ j. find key n (drop j es)) (sym (add-one i))
+stepped : {A : Type 0} (key : A → Name) (n : Name) (e : A) (es : List A) (p : ℕ) (v : Bool)
+    → MatchOption (cond (ltb p (length es)) (Some p) None) (find key n es ≡ None) (λ i. First key n es i)
+    → MatchOption (cond (ltb (cond (not v) (1 + p) 0) (suc (length es))) (Some (cond (not v) (1 + p) 0)) None)
+    (elim v [ true ↦ Some e | false ↦ find key n es ] ≡ None)
+    (λ i. (i < suc (length es)) × ((d : A) → elim v [ true ↦ Some e | false ↦ find key n es ] ≡ Some (get_or (e ∷ es) i d)))
+stepped {A} key n e es p true h =
+    subst (λ b. MatchOption (cond b (Some 0) None) (Some e ≡ None) (λ i. (i < suc (length es)) × ((d : A) → Some e ≡ Some (get_or (e ∷ es) i d))))
+    (sym (lt-ltb 0 (suc (length es)) (omega arith))) (omega arith, λ d. refl)
+stepped {A} key n e es p false h =
+    let more : suc p ≡ 1 + p = omega arith in
+    subst (λ q. MatchOption (cond (ltb q (suc (length es))) (Some q) None) (find key n es ≡ None) (λ i. (i < suc (length es)) × ((d : A) → find key n es ≡ Some (get_or (e ∷ es) i d)))) more
+    (behind key n e es (ltb (suc p) (suc (length es))) p (subst (λ b. MatchOption (cond b (Some p) None) (find key n es ≡ None) (λ i. First key n es i)) (ltb-suc p (length es)) h))
 
--- behind the last entry there is none
-pub missed : {A : Type 0} (key : A → Name) (n : Name) (es : List A) (i : ℕ) → length es ≤ i → find key n es ≡ find key n (drop i es) → find key n es ≡ None
-missed key n es i h k = k ∙ ap (find key n) (drop_all i es h)
+-- the place at which the test of bytes first passes is that of the first entry of the name
+pub placed : {A : Type 0} (key : A → Name) (n : Name) (es : List A)
+    → MatchOption (cond (ltb (position_or_len (λ e. same_bytes (key e) n) es) (length es)) (Some (position_or_len (λ e. same_bytes (key e) n) es)) None) (find key n es ≡ None) (λ i. First key n es i)
+placed key n [] = refl
+placed key n (e ∷ es) = stepped key n e es (position_or_len (λ e. same_bytes (key e) n) es) (same_bytes (key e) n) (placed key n es)
+
+-- the number of items before the first that passes, or the length where none does
+pub counted : {A : Type 0} (test : A → Bool) (es : List A) →
+    unwrap_or (cond (ltb (position_or_len test es) (length es)) (Some (position_or_len test es)) None) (length es) ≡ position_or_len test es
+counted {A} test es = go (ltb p (length es)) refl
+  where
+    p : ℕ
+    p = position_or_len test es
+
+    go : (b : Bool) → ltb p (length es) ≡ b → unwrap_or (cond b (Some p) None) (length es) ≡ p
+    go true t = refl
+    go false t = omega (arith, ltb-false p (length es) t, prefix_len-le-length {X = A} (λ e. not (test e)) es)

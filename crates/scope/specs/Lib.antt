@@ -1,3 +1,5 @@
 pub mod Words
 pub mod Entries
 pub mod Verdicts
+pub mod Searches
+pub mod Spots

@@ -4,5 +4,6 @@
 pub mod command;
 pub mod name;
 pub mod search;
+pub mod spot;
 pub mod state;
 pub mod types;

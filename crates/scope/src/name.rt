@@ -6,23 +6,21 @@ ghost use Rattle.scope.specs.Words.{bytes};
 
 use draft::command::Name;
 use draft::table::Table;
-use lexing::scan::LONGEST_TEXT;
+use lexing::bytes::same;
 
 // As much of a part of a text as there is.
 fn part(text: &[u8], place: usize, length: usize) -> &[u8]
     ensures { result.now ≡ take length (drop place text.now) }
 {
-    let (_, rest) = text.split_at(place.min(text.len()));
-    let (front, _) = rest.split_at(length.min(rest.len()));
-    front
+    let rest = &text[place.min(text.len())..];
+    &rest[..length.min(rest.len())]
 }
 
 // The text that a table keeps.
 pub fn text(table: &Table) -> &[u8]
     ensures { result.now ≡ text_of table.now }
 {
-    let (front, _) = table.text.split_at(table.length.min(LONGEST_TEXT));
-    front
+    table.text.as_slice()
 }
 
 // The bytes of a name.
@@ -30,13 +28,6 @@ pub fn bytes_of(table: &Table, name: Name) -> &[u8]
     ensures { result.now ≡ bytes (text_of table.now) name }
 {
     part(text(table), name.place, name.length)
-}
-
-// Whether two lists of bytes are the same.
-pub fn same(left: &[u8], right: &[u8]) -> bool
-    ensures { result ≡ same_bytes left.now right.now }
-{
-    left == right
 }
 
 // Whether two names have the same bytes.

@@ -1,4 +1,4 @@
-// What is in scope: regions and variables in fixed arrays with counts, and the guard that puts the counts back.
+// What is in scope: regions and variables, the outermost first, and the guard that puts them back.
 ghost use Rattle.std.specs.Prelude.{◌≡◌, ◌<◌, length, take, OnOk};
 ghost use Rattle.language.specs.Syntax.{var};
 ghost use Rattle.language.specs.Checking.{type_atom, new_region, new_variable};
@@ -7,12 +7,12 @@ ghost use Rattle.scope.specs.Words.{bytes, type_of};
 ghost use Rattle.scope.specs.Entries.{scope_of, Grown, Empty, AddsRegion, AddsVariable};
 ghost use Rattle.scope.specs.Verdicts.{told, passed, known};
 
-use crate::name::bytes_of;
-use crate::search::{Variable, first};
+use crate::search::{Variable, found, free};
 use crate::types::Sort;
 use draft::command::Name;
 use draft::table::Table;
-use lexing::fault::{Fault, Question};
+use lexing::fault::Fault;
+use rows::row::Row;
 
 pub const MOST_REGIONS: usize = 8;
 
@@ -25,14 +25,13 @@ pub struct Counts {
     pub variables: usize,
 }
 
-#[derive(Drop)]
+#[derive(Clone, Copy)]
 pub struct State {
-    pub counts: Counts,
-    pub regions: [Name; 8],
-    pub variables: [Variable; 32],
+    pub regions: Row<Name, MOST_REGIONS>,
+    pub variables: Row<Variable, MOST_VARIABLES>,
 }
 
-// A scope that is left: the counts are put back on every way out.
+// A scope that is left: what came into it goes on every way out.
 pub struct Hold<'a> {
     pub state: &'a mut State,
     pub saved: Counts,
@@ -40,11 +39,12 @@ pub struct Hold<'a> {
 
 impl Drop for Hold<'_> {
     fn drop(self)
-        ensures counts { self.exit.0.now.counts ≡ self.entry.saved }
-        ensures regions { self.exit.0.now.regions ≡ self.entry.state.now.regions }
-        ensures variables { self.exit.0.now.variables ≡ self.entry.state.now.variables }
+        ensures regions { self.exit.0.now.regions.items ≡ take self.entry.saved.regions self.entry.state.now.regions.items }
+        ensures variables { self.exit.0.now.variables.items ≡ take self.entry.saved.variables self.entry.state.now.variables.items }
     {
-        self.state.counts = self.saved;
+        let Counts { regions, variables } = self.saved;
+        self.state.regions.truncate(regions);
+        self.state.variables.truncate(variables);
         let Hold { state: _, saved: _ } = self;
     }
 }
@@ -59,15 +59,22 @@ impl State {
             length: 0,
         };
         State {
-            counts: Counts {
-                regions: 0,
-                variables: 0,
-            },
-            regions: [name; 8],
-            variables: [Variable {
+            regions: Row::new(name),
+            variables: Row::new(Variable {
                 name,
                 sort: Sort::Int,
-            }; 32],
+            }),
+        }
+    }
+
+    // How much is in scope.
+    pub fn counts(&self) -> Counts
+        ensures regions { result.regions ≡ length self.now.regions.items }
+        ensures variables { result.variables ≡ length self.now.variables.items }
+    {
+        Counts {
+            regions: self.regions.len(),
+            variables: self.variables.len(),
         }
     }
 
@@ -76,12 +83,7 @@ impl State {
         ensures added { AddsRegion self.old self.new name }
         ensures grown { Grown self.old self.new }
     {
-        let n = self.counts.regions;
-        if n >= MOST_REGIONS {
-            return;
-        }
-        self.regions[n] = name;
-        self.counts.regions = n + 1;
+        self.regions.push(name);
     }
 
     // One variable more, where there is room.
@@ -89,100 +91,40 @@ impl State {
         ensures added { AddsVariable self.old self.new name sort }
         ensures grown { Grown self.old self.new }
     {
-        let n = self.counts.variables;
-        if n >= MOST_VARIABLES {
-            return;
-        }
-        self.variables[n] = Variable { name, sort };
-        self.counts.variables = n + 1;
-    }
-
-    // The regions in scope, the outermost first.
-    fn regions_in(&self) -> &[Name]
-        ensures is { result.now ≡ take self.now.counts.regions self.now.regions }
-        ensures size { length self.now.regions ≡ 8 }
-    {
-        let (inside, _) = self.regions.split_at(self.counts.regions.min(MOST_REGIONS));
-        inside
-    }
-
-    // The variables in scope, the outermost first.
-    fn variables_in(&self) -> &[Variable]
-        ensures is { result.now ≡ take self.now.counts.variables self.now.variables }
-        ensures size { length self.now.variables ≡ 32 }
-    {
-        let (inside, _) = self
-            .variables
-            .split_at(self.counts.variables.min(MOST_VARIABLES));
-        inside
+        self.variables.push(Variable { name, sort });
     }
 
     // The region is known.
     pub fn known_region(&self, table: &Table, name: Name) -> Result<(), Fault>
         ensures { passed result ≡ known (scope_of table.now self.now) (ident (text_of table.now) name) }
     {
-        match first(table, self.regions_in(), bytes_of(table, name)) {
-            Some(_) => Ok(()),
-            None => Err(Fault {
-                question: Question::KnownName,
-                place: name.place,
-            }),
-        }
+        found(table, self.regions.as_slice(), name)?;
+        Ok(())
     }
+
+    // What these two ask is `free`'s to say: each names its row and its limit.
 
     // A region may take that name.
     pub fn new_region(&self, table: &Table, name: Name) -> Result<(), Fault>
         ensures asked { passed result ≡ new_region (scope_of table.now self.now) (ident (text_of table.now) name) }
-        ensures room { OnOk result (self.now.counts.regions < 8) }
+        ensures room { OnOk result (length self.now.regions.items < 8) }
     {
-        let inside = self.regions_in();
-        if self.counts.regions >= MOST_REGIONS {
-            return Err(Fault {
-                question: Question::Room,
-                place: name.place,
-            });
-        }
-        match first(table, inside, bytes_of(table, name)) {
-            Some(_) => Err(Fault {
-                question: Question::NewName,
-                place: name.place,
-            }),
-            None => Ok(()),
-        }
+        free(table, self.regions.as_slice(), MOST_REGIONS, name)
     }
 
     // A variable may take that name, where at most so many may be in scope.
     pub fn new_variable(&self, table: &Table, most: usize, name: Name) -> Result<(), Fault>
-        ensures asked { most < 33 → passed result ≡ new_variable most (scope_of table.now self.now) (ident (text_of table.now) name) }
-        ensures room { OnOk result (self.now.counts.variables < most) }
+        ensures asked { passed result ≡ new_variable most (scope_of table.now self.now) (ident (text_of table.now) name) }
+        ensures room { OnOk result (length self.now.variables.items < most) }
     {
-        let inside = self.variables_in();
-        if self.counts.variables >= most {
-            return Err(Fault {
-                question: Question::Room,
-                place: name.place,
-            });
-        }
-        match first(table, inside, bytes_of(table, name)) {
-            Some(_) => Err(Fault {
-                question: Question::NewName,
-                place: name.place,
-            }),
-            None => Ok(()),
-        }
+        free(table, self.variables.as_slice(), most, name)
     }
 
     // The type of the variable of that name.
     pub fn variable(&self, table: &Table, name: Name) -> Result<Sort, Fault>
         ensures { told (type_of (items table.now)) result ≡ type_atom (scope_of table.now self.now) (var (ident (text_of table.now) name)) }
     {
-        let inside = self.variables_in();
-        match first(table, inside, bytes_of(table, name)) {
-            Some(i) => Ok(inside[i].sort),
-            None => Err(Fault {
-                question: Question::KnownName,
-                place: name.place,
-            }),
-        }
+        let variable = found(table, self.variables.as_slice(), name)?;
+        Ok(variable.sort)
     }
 }

@@ -1,14 +1,17 @@
 // Types, as words in a row that stand in the table: equality, mentions, depth and replacement, each said once.
-ghost use Rattle.std.specs.Prelude.{◌≡◌, ◌<◌, ◌≤◌, drop, MatchOption};
+ghost use Rattle.std.specs.Prelude.{◌≡◌, ◌+◌, ◌<◌, ◌≤◌, [], ◌∷◌, drop, MatchOption};
 ghost use Rattle.draft.specs.Items.{text_of, items};
 ghost use Rattle.language.specs.Types.{int, list, same_type, mentions as mentions_region, depth as depth_of, renamed as renamed_by};
-ghost use Rattle.scope.specs.Words.{bytes, row, declared, handed, type_of, left};
+ghost use Rattle.scope.specs.Words.{bytes, row, word, declared, handed, type_of, left};
 
-use crate::command::{declared_at, handed_at, word_at};
 use crate::name::same_name;
+use crate::spot::Spot;
 use draft::command::Name;
 use draft::table::Table;
 
+// A type points into a table, and a name into its text: they keep no reference, so that entries and drafts can be copied
+// and moved, and who reads one is given the table beside it.
+//
 // A type: int; or the words from a position on; or, seen from a call, those words with the regions that the callee
 // declares from a position on replaced by the regions that the call hands over from a position on.
 #[derive(Clone, Copy)]
@@ -22,19 +25,27 @@ pub enum Sort {
 pub fn renamed(table: &Table, old: usize, new: usize, name: Name) -> Name
     ensures { bytes (text_of table.now) result ≡ renamed_by (row declared (drop old (items table.now))) (row handed (drop new (items table.now))) (bytes (text_of table.now) name) }
 {
-    match declared_at(table, old) {
-        None => name,
-        Some(from) => match handed_at(table, new) {
-            None => name,
-            Some(to) => {
-                if same_name(table, from, name) {
-                    to
-                } else {
-                    renamed(table, old + 1, new + 1, name)
-                }
+    match (
+        Spot::at(table, old).declared(),
+        Spot::at(table, new).handed(),
+    ) {
+        (Some((from, _)), Some((to, _))) => {
+            if same_name(table, from, name) {
+                to
+            } else {
+                renamed(table, old + 1, new + 1, name)
             }
-        },
+        }
+        _ => name,
     }
+}
+
+// The region of the word of a type at a position, and the position behind it.
+fn word_at(table: &Table, position: usize) -> Option<(Name, usize)>
+    ensures { MatchOption result (row word (drop position (items table.now)) ≡ []) (λ w. (position < 4096) × (w.1 ≡ position + 1) × (row word (drop position (items table.now)) ≡ bytes (text_of table.now) w.0 ∷ row word (drop (position + 1) (items table.now)))) }
+{
+    let (name, behind) = Spot::at(table, position).word()?;
+    Some((name, behind.position))
 }
 
 // The region of a type's first word, and the type behind that word; none for int.
@@ -43,17 +54,15 @@ pub fn head(table: &Table, sort: Sort) -> Option<(Name, Sort)>
 {
     match sort {
         Sort::Int => None,
-        Sort::Written(words) => match word_at(table, words) {
-            Some(name) => Some((name, Sort::Written(words + 1))),
-            None => None,
-        },
-        Sort::Called(words, old, new) => match word_at(table, words) {
-            Some(name) => Some((
-                renamed(table, old, new, name),
-                Sort::Called(words + 1, old, new),
-            )),
-            None => None,
-        },
+        Sort::Written(words) => {
+            let (name, behind) = word_at(table, words)?;
+            Some((name, Sort::Written(behind)))
+        }
+        Sort::Called(words, old, new) => {
+            let (name, behind) = word_at(table, words)?;
+            let region = renamed(table, old, new, name);
+            Some((region, Sort::Called(behind, old, new)))
+        }
     }
 }
 
@@ -61,21 +70,12 @@ pub fn head(table: &Table, sort: Sort) -> Option<(Name, Sort)>
 pub fn same_sort(table: &Table, left: Sort, right: Sort) -> bool
     ensures { result ≡ same_type (type_of (items table.now) left) (type_of (items table.now) right) }
 {
-    match head(table, left) {
-        None => match head(table, right) {
-            None => true,
-            Some(_) => false,
-        },
-        Some((first, inner)) => match head(table, right) {
-            None => false,
-            Some((second, other)) => {
-                if same_name(table, first, second) {
-                    same_sort(table, inner, other)
-                } else {
-                    false
-                }
-            }
-        },
+    match (head(table, left), head(table, right)) {
+        (None, None) => true,
+        (Some((first, inner)), Some((second, other))) => {
+            same_name(table, first, second) && same_sort(table, inner, other)
+        }
+        _ => false,
     }
 }
 
@@ -85,13 +85,7 @@ pub fn mentions(table: &Table, region: Name, sort: Sort) -> bool
 {
     match head(table, sort) {
         None => false,
-        Some((name, inner)) => {
-            if same_name(table, name, region) {
-                true
-            } else {
-                mentions(table, region, inner)
-            }
-        }
+        Some((name, inner)) => same_name(table, name, region) || mentions(table, region, inner),
     }
 }
 

@@ -3,7 +3,7 @@
 
 use checker::check::check;
 use draft::draft::Draft;
-use escapes::{Failure, unescape};
+use escapes::unescape;
 use lexing::fault::Fault;
 use program::program::Program;
 use reading::read::read;
@@ -24,18 +24,14 @@ fn answer(rt: &HostRuntime, number: u64, line: &str) -> io::Result<()> {
             Ok(()) => println!(rt; "ok"),
             Err(fault) => println!(rt; "refused {} at {}", fault.question.number(), fault.place),
         },
-        Err(Failure::BadEscape) => println!(rt;
-            "line {number}: a backslash stands before n, t, x and two hexadecimal digits, or another backslash"
-        ),
-        Err(Failure::Memory) => println!(rt; "line {number}: there is no memory for this"),
+        Err(failure) => println!(rt; "line {number}: {failure}"),
     }
 }
 
 // Answers each line of standard input.
 pub fn serve(rt: &HostRuntime) -> io::Result<()> {
-    let mut number = 0u64;
-    for line in BufReader::new(rt.alloc(), rt.stdin())?.lines(rt.alloc()) {
-        number = number.saturating_add(1);
+    let lines = BufReader::new(rt.alloc(), rt.stdin())?.lines(rt.alloc());
+    for (number, line) in (1u64..).zip(lines) {
         answer(rt, number, line?.as_str())?;
     }
     Ok(())

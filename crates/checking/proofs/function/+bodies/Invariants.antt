@@ -2,4 +2,4 @@
 use Rattle.checking.proofs.function.+bodies.Given as goal
 
 abbrev pub decreases-bodies : goal.decreases-bodies
-decreases-bodies l = l.steps
+decreases-bodies l = l.walk.steps

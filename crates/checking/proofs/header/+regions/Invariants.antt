@@ -3,4 +3,4 @@ use Rattle.std.proofs.Common.{◌-◌}
 use Rattle.checking.proofs.header.+regions.Given as goal
 
 abbrev pub decreases-regions : goal.decreases-regions
-decreases-regions l = 4096 - l.position
+decreases-regions l = 4096 - l.spot.position

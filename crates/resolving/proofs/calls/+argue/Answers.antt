@@ -1,40 +1,21 @@
 -- One more, or none.
-use Rattle.std.proofs.Common.{sym, ◌∙◌, arith}
-use Rattle.draft.specs.Items.{text_of}
-use Rattle.resolving.proofs.Calling.{argue_more, argue_none, no-block_variable, no-block_number, no-atom, no-atom_here}
-use Rattle.resolving.proofs.Fronts.{front_kept}
+use Rattle.std.proofs.Common.{◌≡◌, ℕ, List, ◌∷◌, drop, rules}
+use Rattle.language.specs.Syntax.{Ident, Atom}
+use Rattle.draft.specs.Items.{Item, a_let, a_print, a_last, items, items_atom}
+use Rattle.resolving.proofs.Calling.{argue_more, argue_none}
+use Rattle.resolving.proofs.Defaults.{no_block}
 use Rattle.resolving.proofs.calls.+argue.Goals as goal
 
-pub returns-in-Variable : goal.returns-in-Variable
-returns-in-Variable m c =
-    let t = c.args.table.now in
-    let there = front_kept t c.args.position _ _ c.in-Variable.is c.in-Some.ensures.1 in
-    record {
-      onward = omega arith;
-      walks = argue_more t c.args.names.now c.args.tape.now c.push.new.self _ c.args.position c.argue.result c.atom-known.result
-          (λ d rest e. no-block_variable d _ rest _ (sym there ∙ e)) c.atom-known.ensures c.push.ensures c.argue.ensures.walks;
-    }
+pub returns-in-Some-Variable-clause-walks : goal.returns-in-Some-Variable-clause-walks
+returns-in-Some-Variable-clause-walks m c =
+    let t = c.args.names.now.table.now in
+    let no-let : (x : Ident) (xs : List Item) → drop c.args.position (items t) ≡ a_let x ∷ xs → ⊥ = search rules in
+    let no-print : (p : ℕ) (xs : List Item) → drop c.args.position (items t) ≡ a_print p ∷ xs → ⊥ = search rules in
+    let no-last : (xs : List Item) → drop c.args.position (items t) ≡ a_last ∷ xs → ⊥ = search rules in
+    argue_more t c.args.names.now.state c.args.tape.now.items c.push.new.self.items _ c.args.position c.argue.result c.atom-known.result (no_block _ no-let no-print no-last) c.atom-known.ensures c.push.ensures.room c.argue.ensures.walks
 
-pub returns-in-Number : goal.returns-in-Number
-returns-in-Number m c =
-    let t = c.args.table.now in
-    let there = front_kept t c.args.position _ _ c.in-Number.is c.in-Some.ensures.1 in
-    record {
-      onward = omega arith;
-      walks = argue_more t c.args.names.now c.args.tape.now c.push-in-Number.new.self _ c.args.position c.argue-in-Number.result c.atom-known-in-Number.result
-          (λ d rest e. no-block_number d _ rest _ _ (sym there ∙ e)) c.atom-known-in-Number.ensures c.push-in-Number.ensures c.argue-in-Number.ensures.walks;
-    }
-
-pub returns-in_default : goal.returns-in_default
-returns-in_default m c =
-    let t = c.args.table.now in
-    record {
-      onward = omega arith;
-      walks = argue_none t c.args.names.now c.args.tape.now c.args.position
-          (λ a rest e. no-atom (text_of t) c.in-Some.command a _ rest c.in_default.not-Variable c.in_default.not-Number (sym c.in-Some.ensures.1 ∙ e));
-    }
-
-pub returns-in-None : goal.returns-in-None
-returns-in-None m c =
-    let t = c.args.table.now in
-    record { onward = omega arith; walks = argue_none t c.args.names.now c.args.tape.now c.args.position (λ a rest e. no-atom_here a rest c.in-None.ensures e) }
+pub returns-in_default-clause-walks : goal.returns-in_default-clause-walks
+returns-in_default-clause-walks m c =
+    let t = c.args.names.now.table.now in
+    let never : (a : Atom) (rest : List Item) → drop c.args.position (items t) ≡ items_atom a rest → ⊥ = search rules in
+    argue_none t c.args.names.now.state c.args.tape.now.items c.args.position never

@@ -1,30 +1,25 @@
 -- One more, or none.
-use Rattle.std.proofs.Common.{arith}
-use Rattle.draft.specs.Items.{text_of}
+use Rattle.std.proofs.Common.{◌≡◌, List, ◌∷◌, drop, rules}
+use Rattle.language.specs.Syntax.{Ident}
+use Rattle.draft.specs.Items.{Item, a_handed, items}
 use Rattle.resolving.proofs.Calling.{hand_more, hand_none}
-use Rattle.resolving.proofs.Fronts.{front_item, front_none, front_kept}
-use Rattle.resolving.proofs.Others.{no-handed}
+use Rattle.resolving.proofs.Fronts.{front_kept}
 use Rattle.resolving.proofs.calls.+hand.Goals as goal
 
-pub returns-in-Handed : goal.returns-in-Handed
-returns-in-Handed m c =
-    let t = c.args.table.now in
-    record {
-      onward = omega arith;
-      walks = hand_more t c.args.names.now c.args.tape.now c.push.new.self _ c.args.position c.hand.result c.region-region.result c.in-Handed.name
-          (front_kept t c.args.position _ _ c.in-Handed.is c.in-Some.ensures.1) c.region-region.ensures c.push.ensures c.hand.ensures.walks;
-    }
+pub returns-in-Some-Handed-clause-walks : goal.returns-in-Some-Handed-clause-walks
+returns-in-Some-Handed-clause-walks m c =
+    let t = c.args.names.now.table.now in
+    hand_more t c.args.names.now.state c.args.tape.now.items c.push.new.self.items _ c.args.position c.hand.result c.region.result c.in-Some-Handed.name
+    (front_kept t c.args.position _ _ c.in-Some-Handed.field-0-is c.in-Some-Handed.ensures.1) c.region.ensures c.push.ensures.room c.hand.ensures.walks
 
-pub returns-in_default : goal.returns-in_default
-returns-in_default m c =
-    let t = c.args.table.now in
-    record {
-      onward = omega arith;
-      walks = hand_none t c.args.names.now c.args.tape.now c.args.position
-          (λ r xs e. no-handed (text_of t) c.in-Some.command r c.in_default.not-Handed (front_item c.in-Some.ensures.1 e));
-    }
+pub returns-in_default-clause-walks : goal.returns-in_default-clause-walks
+returns-in_default-clause-walks m c =
+    let t = c.args.names.now.table.now in
+    let never : (r : Ident) (xs : List Item) → drop c.args.position (items t) ≡ a_handed r ∷ xs → ⊥ = search rules in
+    hand_none t c.args.names.now.state c.args.tape.now.items c.args.position never
 
-pub returns-in-None : goal.returns-in-None
-returns-in-None m c =
-    let t = c.args.table.now in
-    record { onward = omega arith; walks = hand_none t c.args.names.now c.args.tape.now c.args.position (λ r xs e. front_none c.in-None.ensures e) }
+pub returns-in_default-2-clause-walks : goal.returns-in_default-2-clause-walks
+returns-in_default-2-clause-walks m c =
+    let t = c.args.names.now.table.now in
+    let never : (r : Ident) (xs : List Item) → drop c.args.position (items t) ≡ a_handed r ∷ xs → ⊥ = search rules in
+    hand_none t c.args.names.now.state c.args.tape.now.items c.args.position never

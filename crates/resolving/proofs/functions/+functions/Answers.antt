@@ -1,18 +1,20 @@
 -- One function and the others, or none.
 use Rattle.std.proofs.Common.{arith}
+use Rattle.program.specs.declared.code.Code.{Code}
 use Rattle.resolving.proofs.Wholes.{functions-none, functions_more, functions-stop}
 use Rattle.resolving.proofs.functions.+functions.Goals as goal
 
-pub returns-then-end-position : goal.returns-then-end-position
-returns-then-end-position m c =
-    functions_more c.args.table.now c.args.tape.now c.block-end.new.tape c.functions.new.tape c.args.entries.now c.push.new.self c.functions.new.entries c.args.position
-    c.free_region-regions.result c.free_slot-params.result c.read_header-header.result c.block-end.result _ _ c.in-Some.ensures.1 c.read_header-header.ensures
-    c.free_region-regions.ensures.slot c.free_slot-params.ensures.slot c.push.ensures c.block-end.ensures.walks c.functions.ensures
+pub returns-then-position-len-clause-walks : goal.returns-then-position-len-clause-walks
+returns-then-position-len-clause-walks m c = functions-none c.args.table.now c.args.code.now c.args.position (omega arith)
 
-pub returns-else-end-position : goal.returns-else-end-position
-returns-else-end-position m c =
-    functions-stop c.args.table.now c.args.tape.now c.block-end.new.tape _ c.args.entries.now _ c.args.position c.read_header-header.result c.block-end.result _ _
-    c.in-Some.ensures.1 c.read_header-header.ensures c.block-end.ensures.walks (omega arith)
+pub returns-then-end-position-clause-walks : goal.returns-then-end-position-clause-walks
+returns-then-end-position-clause-walks m c =
+    let mid : Code = record { commands = c.block-end.new.tape; functions = c.push.new.self; main = c.args.code.now.main } in
+    functions_more c.args.table.now c.args.code.now mid c.functions.new.code c.args.position c.len-2.result c.len-3.result c.len-4.result c.read_header-header.result c.block-end.result (omega arith)
+    c.read_header-header.ensures c.len-2.ensures.value c.len-3.ensures.value c.len-4.ensures.value c.push.ensures.room c.block-end.ensures.walks c.functions.ensures.walks
 
-pub returns-in-None : goal.returns-in-None
-returns-in-None m c = functions-none c.args.table.now c.args.tape.now c.args.entries.now c.args.position c.in-None.ensures
+pub returns-else-end-position-clause-walks : goal.returns-else-end-position-clause-walks
+returns-else-end-position-clause-walks m c =
+    let mid : Code = record { commands = c.block-end.new.tape; functions = c.push.new.self; main = c.args.code.now.main } in
+    functions-stop c.args.table.now c.args.code.now mid mid c.args.position c.read_header-header.result c.block-end.result (omega arith)
+    c.read_header-header.ensures c.block-end.ensures.walks (omega arith)

@@ -1,20 +1,25 @@
 -- One more, or none.
-use Rattle.draft.specs.Items.{text_of}
+use Rattle.std.proofs.Common.{◌≡◌, List, ◌∷◌, drop, rules}
+use Rattle.language.specs.Syntax.{Ident}
+use Rattle.draft.specs.Items.{Item, a_header_region, items}
 use Rattle.resolving.proofs.Heading.{regions-more, regions-none}
-use Rattle.resolving.proofs.Fronts.{front_item, front_none, front_kept}
-use Rattle.resolving.proofs.Others.{no-header_region}
+use Rattle.resolving.proofs.Fronts.{front_kept}
 use Rattle.resolving.proofs.headers.+regions.Goals as goal
 
-pub returns-in-HeaderRegion : goal.returns-in-HeaderRegion
-returns-in-HeaderRegion m c =
+pub returns-in-Some-HeaderRegion : goal.returns-in-Some-HeaderRegion
+returns-in-Some-HeaderRegion m c =
     let t = c.args.table.now in
-    regions-more t c.args.names.now c.with_region.result c.args.position c.in-HeaderRegion.name c.regions.result
-    (front_kept t c.args.position _ _ c.in-HeaderRegion.is c.in-Some.ensures.1) (c.with_region.ensures t) c.regions.ensures
+    regions-more t c.args.state.now c.add_region.new.self c.regions.new.state c.args.position c.regions.result c.in-Some-HeaderRegion.name
+    (front_kept t c.args.position _ _ c.in-Some-HeaderRegion.field-0-is c.in-Some-HeaderRegion.ensures.1) c.add_region.ensures.added c.regions.ensures
 
 pub returns-in_default : goal.returns-in_default
 returns-in_default m c =
     let t = c.args.table.now in
-    regions-none t c.args.names.now c.args.position (λ x xs e. no-header_region (text_of t) c.in-Some.command x c.in_default.not-HeaderRegion (front_item c.in-Some.ensures.1 e))
+    let never : (x : Ident) (xs : List Item) → drop c.args.position (items t) ≡ a_header_region x ∷ xs → ⊥ = search rules in
+    regions-none t c.args.state.now c.args.position never
 
-pub returns-in-None : goal.returns-in-None
-returns-in-None m c = regions-none c.args.table.now c.args.names.now c.args.position (λ x xs e. front_none c.in-None.ensures e)
+pub returns-in_default-2 : goal.returns-in_default-2
+returns-in_default-2 m c =
+    let t = c.args.table.now in
+    let never : (x : Ident) (xs : List Item) → drop c.args.position (items t) ≡ a_header_region x ∷ xs → ⊥ = search rules in
+    regions-none t c.args.state.now c.args.position never

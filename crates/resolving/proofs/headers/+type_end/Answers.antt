@@ -1,23 +1,21 @@
 -- A type is words in a row and a last one.
-use Rattle.std.proofs.Common.{arith}
-use Rattle.draft.specs.Items.{item, text_of}
+use Rattle.std.proofs.Common.{◌≡◌, rules}
+use Rattle.language.specs.Syntax.{Ident}
+use Rattle.draft.specs.Items.{a_list, item, text_of}
 use Rattle.resolving.proofs.Heading.{type-more, type-last, type-none}
 use Rattle.resolving.proofs.Fronts.{front_kept}
-use Rattle.resolving.proofs.Others.{no-list}
 use Rattle.resolving.proofs.headers.+type_end.Goals as goal
 
-pub returns-in-List : goal.returns-in-List
-returns-in-List m c =
+pub returns-in-Some-List-clause-walks : goal.returns-in-Some-List-clause-walks
+returns-in-Some-List-clause-walks m c =
     let t = c.args.table.now in
-    record { onward = omega arith; walks = type-more t c.args.position c.type_end.result _ (front_kept t c.args.position _ _ c.in-List.is c.in-Some.ensures.1) c.type_end.ensures.walks }
+    type-more t c.args.position c.type_end.result _ (front_kept t c.args.position _ _ c.in-Some-List.field-0-is c.in-Some-List.ensures.1) c.type_end.ensures.walks
 
-pub returns-in_default : goal.returns-in_default
-returns-in_default m c =
+pub returns-in-Some-clause-walks : goal.returns-in-Some-clause-walks
+returns-in-Some-clause-walks m c =
     let t = c.args.table.now in
-    record {
-      onward = omega arith;
-      walks = type-last t c.args.position (item (text_of t) c.in-Some.command) c.in-Some.ensures.1 (λ x e. no-list (text_of t) c.in-Some.command x c.in_default.not-List e);
-    }
+    let never : (x : Ident) → item (text_of t) c.in-Some.field-0 ≡ a_list x → ⊥ = search rules in
+    type-last t c.args.position (item (text_of t) c.in-Some.field-0) c.in-Some.ensures.1 never
 
-pub returns-in-None : goal.returns-in-None
-returns-in-None m c = record { onward = omega arith; walks = type-none c.args.table.now c.args.position c.in-None.ensures }
+pub returns-in-None-clause-walks : goal.returns-in-None-clause-walks
+returns-in-None-clause-walks m c = type-none c.args.table.now c.args.position c.in-None.ensures

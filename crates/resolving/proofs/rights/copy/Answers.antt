@@ -1,10 +1,6 @@
-use Rattle.std.proofs.Common.{arith}
 use Rattle.resolving.proofs.Laying.{copied}
 use Rattle.resolving.proofs.rights.copy.Goals as goal
 
-pub returns : goal.returns
-returns c =
-    record {
-      onward = omega arith;
-      walks = copied c.args.table.now c.args.names.now c.args.tape.now c.push.new.self c.args.position c.free_slot-slot.result c.atom-known.result c.atom-known.ensures c.free_slot-slot.ensures.slot c.push.ensures;
-    }
+pub returns-clause-walks : goal.returns-clause-walks
+returns-clause-walks c =
+    copied c.args.names.now.table.now c.args.names.now.state c.args.tape.now.items c.push.new.self.items c.args.start.position c.len-slot.result c.atom-known.result c.atom-known.ensures c.len-slot.ensures.value c.push.ensures.room

@@ -1,11 +1,7 @@
-use Rattle.std.proofs.Common.{arith}
 use Rattle.resolving.proofs.Laying.{operated}
 use Rattle.resolving.proofs.rights.operate.Goals as goal
 
-pub returns : goal.returns
-returns c =
-    record {
-      onward = omega arith;
-      walks = operated c.args.table.now c.args.names.now c.args.tape.now c.push.new.self c.args.position c.free_slot-slot.result c.args.place c.args.operator
-          c.atom-first.result c.atom-second.result c.atom-first.ensures c.atom-second.ensures c.free_slot-slot.ensures.slot c.push.ensures;
-    }
+pub returns-clause-walks : goal.returns-clause-walks
+returns-clause-walks c =
+    operated c.args.names.now.table.now c.args.names.now.state c.args.tape.now.items c.push.new.self.items c.args.start.position c.len-slot.result c.args.place c.args.operator
+    c.atom-first.result c.atom-second.result c.atom-first.ensures c.atom-second.ensures c.len-slot.ensures.value c.push.ensures.room

@@ -1,37 +1,15 @@
--- No room, found, or new.
-use Rattle.std.proofs.Common.{true, false, take, sym, refl, ap, ◌∙◌, arith}
-use Rattle.std.specs.Option.{option_map}
-use Rattle.language.specs.Scope.{find}
+-- A variable is new where its name is new among the entries.
+use Rattle.std.proofs.Common.{◌∙◌, ap}
 use Rattle.draft.specs.Items.{text_of, ident}
 use Rattle.scope.specs.Words.{bytes}
-use Rattle.scope.specs.Entries.{scope_of, variable_of}
-use Rattle.scope.proofs.Scopes.{find-map, room, full, new-variable_by}
-use Rattle.scope.specs.declared.types.Sort.{Sort}
+use Rattle.scope.specs.Entries.{variable_of}
+use Rattle.scope.specs.Searches.{new_among}
+use Rattle.scope.proofs.Scopes.{new-among_map}
 use Rattle.scope.proofs.state.State.new_variable.Goals as goal
 
-pub returns-then-self-most : goal.returns-then-self-most
-returns-then-self-most c =
+pub returns-clause-asked : goal.returns-clause-asked
+returns-clause-asked c =
     let t = c.args.table.now in
-    let s = c.args.self.now in
-    let n = c.args.name in
-    let text = text_of t in
-    let Γ = scope_of t s in
-    record { asked = λ m. new-variable_by c.args.most Γ (ident text n) false _ (full (variable_of t) s.counts.variables c.args.most s.variables (omega arith) (omega arith)) refl; room = tt }
-
-pub returns-in-Some : goal.returns-in-Some
-returns-in-Some c =
-    let t = c.args.table.now in
-    let s = c.args.self.now in
-    let n = c.args.name in
-    let text = text_of t in
-    let Γ = scope_of t s in
-    record { asked = λ m. new-variable_by c.args.most Γ (ident text n) true _ (room (variable_of t) s.counts.variables c.args.most s.variables (omega arith)) (find-map (λ x. x.name) (variable_of t) (bytes text n) (take s.counts.variables s.variables) ∙ ap (λ es. option_map (variable_of t) (find (λ v. bytes text v.name) (bytes text n) es)) (sym c.variables_in-inside.ensures.is) ∙ ap (λ b. option_map (variable_of t) (find (λ v. bytes text v.name) b c.variables_in-inside.result.now)) (sym c.bytes_of.ensures) ∙ ap (option_map (variable_of t)) (c.in-Some.ensures.1 (record { name = n; sort = Sort.Int }))); room = tt }
-
-pub returns-in-None : goal.returns-in-None
-returns-in-None c =
-    let t = c.args.table.now in
-    let s = c.args.self.now in
-    let n = c.args.name in
-    let text = text_of t in
-    let Γ = scope_of t s in
-    record { asked = λ m. new-variable_by c.args.most Γ (ident text n) true _ (room (variable_of t) s.counts.variables c.args.most s.variables (omega arith)) (find-map (λ x. x.name) (variable_of t) (bytes text n) (take s.counts.variables s.variables) ∙ ap (λ es. option_map (variable_of t) (find (λ v. bytes text v.name) (bytes text n) es)) (sym c.variables_in-inside.ensures.is) ∙ ap (λ b. option_map (variable_of t) (find (λ v. bytes text v.name) b c.variables_in-inside.result.now)) (sym c.bytes_of.ensures) ∙ ap (option_map (variable_of t)) c.in-None.ensures); room = omega arith }
+    let x = ident (text_of t) c.args.name in
+    c.free.ensures.asked ∙ ap (new_among c.args.most (λ v. bytes (text_of t) v.name) x) c.as_slice.ensures.value
+    ∙ new-among_map c.args.most (λ v. v.name) (variable_of t) x c.args.self.now.variables.items
