@@ -18,7 +18,7 @@ use scope::spot::Spot;
 use scope::state::State;
 use scope::types::Sort;
 
-// The regions that a call hands over are known.
+// The regions that a call hands over are known. A header's are new and come into scope, so that they have a walk of their own.
 fn handed_known<'a>(state: &State, spot: Spot<'a>) -> Result<Spot<'a>, Fault>
     ensures verdict { told (rest_of spot.entry.table.now) result ≡ walk_handed (scope_of spot.entry.table.now state.now) (ahead spot.entry) }
     ensures there { IfOk result (λ u. u.table.now ≡ spot.entry.table.now) }

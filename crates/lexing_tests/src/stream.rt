@@ -3,24 +3,24 @@ use lexing::token::Kind;
 use lexing::tokens::Tokens;
 use std::test::Fail;
 
-// How many tokens come, and the number and place of the refusal behind them; 0 where there is none.
-fn come(text: &[u8]) -> (usize, u8, usize) {
+// How many tokens come, and the number and place of the refusal behind them, if there is one.
+fn come(text: &[u8]) -> (usize, Option<(u8, usize)>) {
     // The fault behind them is wanted beside their number.
     let mut count = 0usize;
     for token in Tokens::new(text) {
         match token {
             Ok(_) => count = count.saturating_add(1),
-            Err(fault) => return (count, fault.question.number(), fault.place),
+            Err(fault) => return (count, Some((fault.question.number(), fault.place))),
         }
     }
-    (count, 0, 0)
+    (count, None)
 }
 
 #[test]
 fn tokens_come_up_to_the_end_or_a_fault(rt: HostRuntime) {
-    assert_eq!(rt; come(b" let a = 7; "), (5, 0, 0));
-    assert_eq!(rt; come(b" \n"), (0, 0, 0));
-    assert_eq!(rt; come(b"a $ b"), (1, 2, 2));
+    assert_eq!(rt; come(b" let a = 7; "), (5, None));
+    assert_eq!(rt; come(b" \n"), (0, None));
+    assert_eq!(rt; come(b"a $ b"), (1, Some((2, 2))));
 }
 
 #[test]

@@ -183,6 +183,7 @@ impl RegionStore for Pages {
     }
 
     fn clear(&mut self) {
+        // Regions close from the top, one by one.
         for _region in 0..self.stack.len() {
             self.shut();
         }

@@ -45,6 +45,8 @@ pub fn regions(table: &Table, state: &mut State, position: usize) -> usize
     }
 }
 
+// Not one with `regions`: a parameter has a type behind it, which is passed over.
+//
 // The parameters of a header come into scope, from a position on; the answer is the position behind them.
 pub fn params(table: &Table, state: &mut State, position: usize) -> usize
     ensures { ParamsIn table.now state.old state.new position result }

@@ -32,6 +32,7 @@ impl<T: Copy, const N: usize> Model for Row<T, N> {
         ∙ ap (λ n. record { cells = r.cells; count = n }) (length-take-le r.count r.cells (omega (arith, h.0, h.1))) };
 }
 
+// By hand: what a derived `clone` gives is told item by item, and that it is the same row was not proved of it.
 impl<T: Copy, const N: usize> Clone for Row<T, N> {
     ghost is_clone = { λ r s. s ≡ r };
 
