@@ -1,5 +1,5 @@
 // The functions of a table, one after the other.
-ghost use Rattle.std.specs.Prelude.{◌≤◌, length};
+ghost use Rattle.std.specs.Prelude.{◌≡◌, ◌≤◌, length};
 ghost use Rattle.draft.specs.Items.{items};
 ghost use Rattle.resolving.specs.Whole.{FunctionsWalk};
 
@@ -14,6 +14,7 @@ use program::command::{Function, Way};
 pub fn functions(table: &Table, code: &mut Code, position: usize)
     ensures fits { length (items table.now) ≤ 4096 }
     ensures walks { FunctionsWalk table.now code.old code.new position }
+    ensures main { code.new.main ≡ code.old.main }
 {
     if position >= table.commands.len() {
         return;
