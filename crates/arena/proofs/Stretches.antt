@@ -1,17 +1,17 @@
 -- What an arena's lengths and words, ls and ws, say of each operation. Assumes nothing.
-use Rattle.std.specs.Prelude.{◌≡◌, ℕ, ◌+◌, ◌-◌, ◌<◌, ◌≤◌, List, [], ◌∷◌, ◌++◌, length, take, Ok, Err, nat_le, slice_index, slice_set}
+use Rattle.std.specs.Prelude.{◌≡◌, ℕ, ◌+◌, ◌-◌, ◌<◌, ◌≤◌, List, [], ◌∷◌, ◌++◌, length, take, drop, Ok, Err, nat_le, slice_index, slice_index_or, slice_set}
 use Rattle.std.proofs.Common.{sym, ap, ◌∙◌, arith}
 use Rattle.std.proofs.Math.Bool.{and-true}
-use Rattle.std.proofs.lemmas.List.{length_push, length-set}
+use Rattle.std.proofs.lemmas.List.{length_push, length-set, get_or-take, get_or-drop}
 use Rattle.std.proofs.lemmas.Bool.{le-leb, lt-leb}
-use Rattle.regions.specs.declared.refusal.Refusal.TheVariants.{Denied, NoRegion}
-use Rattle.regions.specs.Model.{region, longer, may_open, open_answer, open_after, may_put, put_answer, put_after, close_answer, close_after}
+use Rattle.regions.specs.declared.refusal.Refusal.TheVariants.{Denied, NoRegion, NoWord}
+use Rattle.regions.specs.Model.{region, longer, may_open, open_answer, open_after, may_put, put_answer, put_after, get_answer, close_answer, close_after}
 use Rattle.regions.specs.Rules.{total, capacity, arena_rule}
 use Rattle.regions.proofs.Bounds.{lengths-at}
 use Rattle.regions.proofs.Answered as cases
 use Rattle.arena.specs.Counted.{length_split}
 use Rattle.arena.specs.Layout.{split}
-use Rattle.arena.proofs.Splits.{lengths_split, split_push, split_take, total_push, total_set}
+use Rattle.arena.proofs.Splits.{lengths_split, split_push, split_take, split_at, total_push, total_set}
 
 -- how long one region is
 pub region_length : (ls ws : List ℕ) (p : ℕ) → p < length ls → total ls ≤ length ws → length (region (split ls ws) p) ≡ slice_index ls p
@@ -55,6 +55,21 @@ module _ (ls ws : List ℕ) (n : ℕ) (fits : total ls ≤ capacity n) (all : n 
     put_room h few room =
         let t = cases.put_granted (arena_rule n) (split ls ws) p new (omega (arith, length_split ls ws)) (may_put_is h few ∙ le-leb (total ls + length new) (capacity n) room) in
         (t.0 ∙ ap Ok (region_length ls ws p h in_words), t.1)
+
+  -- the word at i of the region at p
+  module _ (p i : ℕ) where
+    pub get_none : length ls ≤ p → get_answer (split ls ws) p i ≡ Err NoRegion
+    get_none h = cases.get_none (split ls ws) p i (omega (arith, length_split ls ws))
+
+    pub get_past : p < length ls → slice_index ls p ≤ i → get_answer (split ls ws) p i ≡ Err NoWord
+    get_past h past = cases.get_past (split ls ws) p i (omega (arith, length_split ls ws)) (omega (arith, region_length ls ws p h in_words))
+
+    pub get_word : p < length ls → i < slice_index ls p → get_answer (split ls ws) p i ≡ Ok (slice_index ws (total (take p ls) + i))
+    get_word h l =
+        let word : slice_index_or (region (split ls ws) p) i 0 ≡ slice_index_or ws (total (take p ls) + i) 0 =
+        ap (λ xs. slice_index xs i) (split_at ls ws p h) ∙ get_or-take (slice_index ls p) (drop (total (take p ls)) ws) i 0 l ∙ get_or-drop (total (take p ls)) ws i 0
+        in
+        cases.get_word (split ls ws) p i (omega (arith, length_split ls ws)) (omega (arith, region_length ls ws p h in_words)) ∙ ap Ok word
 
   pub close_some : 0 < length ls → (close_answer (split ls ws) ≡ Ok tt) × (close_after (split ls ws) ≡ split (take (length ls - 1) ls) ws)
   close_some h = (

@@ -1,5 +1,5 @@
 // A store whose regions lie one after another in one stretch of the caller's memory.
-ghost use Rattle.std.specs.Prelude.{◌≡◌, ◌+◌, ◌<◌, ◌≤◌, [], ◌++◌, MatchOption, length, take, vec_len, slice_index, slice_set};
+ghost use Rattle.std.specs.Prelude.{◌≡◌, ◌+◌, ◌<◌, ◌≤◌, [], ◌++◌, length, take, vec_len, slice_index, slice_set};
 ghost use Rattle.std.specs.List.{insert_slice};
 ghost use Rattle.regions.specs.Model.{region};
 ghost use Rattle.regions.specs.Rules.{total, capacity, arena_rule};
@@ -34,7 +34,10 @@ fn insert(words: &mut [u32], used: usize, at: usize, new: &[u32])
     ensures inserted { take (used + length new.now) words.new ≡ insert_slice (take used words.old) at new.now }
 {
     words.copy_within(at..used, at + new.len());
-    words[at..at + new.len()].copy_from_slice(new);
+    // Word by word: there are few, and a copy of a part would first ask whether it overlaps with its source.
+    for (i, word) in new.iter().enumerate() {
+        words[at + i] = *word;
+    }
 }
 
 impl Arena {
@@ -78,24 +81,15 @@ impl Arena {
         self.lens.iter().sum()
     }
 
-    // The words of the region at `position`, if there is one.
-    fn region(&self, position: usize) -> Option<&[u32]>
-        ensures { let rs = held self.now.lens.items self.now.memory.items in MatchOption result (length rs ≤ position) (λ words. (position < length rs) × (words.now ≡ region rs position)) }
-    {
-        let length = *self.lens.get(position)?;
-        let begin = self.begin(position);
-        Some(&self.memory[begin..begin + length])
-    }
-
-    // Puts words at the end of the region at `position`, where there is room, and says how long it was.
-    fn append(&mut self, position: usize, new: &[u32]) -> usize
+    // Puts words at the end of the region at `position`, where there is room behind the `used` ones, and says how long it was.
+    fn append(&mut self, position: usize, used: usize, new: &[u32]) -> usize
         requires here { position < length self.old.lens.items }
+        requires used { used ≡ total self.old.lens.items }
         requires room { total self.old.lens.items + length new.now ≤ capacity (vec_len self.old.memory) }
         ensures old { result ≡ slice_index self.old.lens.items position }
         ensures len { vec_len self.new.memory ≡ vec_len self.old.memory }
         ensures regions { held self.new.lens.items self.new.memory.items ≡ slice_set (held self.old.lens.items self.old.memory.items) position (region (held self.old.lens.items self.old.memory.items) position ++ new.now) }
     {
-        let used = self.used();
         let old = self.lens[position];
         let end = self.begin(position) + old;
         insert(self.memory.as_mut_slice(), used, end, new);
@@ -126,15 +120,21 @@ impl RegionStore for Arena {
             return Err(Refusal::NoRegion);
         }
         let new = [first, second];
-        if new.len() > self.capacity() - self.used() {
+        let used = self.used();
+        if new.len() > self.capacity() - used {
             return Err(Refusal::Denied);
         }
-        Ok(self.append(position, &new))
+        Ok(self.append(position, used, &new))
     }
 
     fn get(&self, position: usize, place: usize) -> Result<u32, Refusal> {
-        let words = self.region(position).ok_or(Refusal::NoRegion)?;
-        words.get(place).copied().ok_or(Refusal::NoWord)
+        let length = *self.lens.get(position).ok_or(Refusal::NoRegion)?;
+        // Asked before the lengths below are added up: a refusal, which a quota looks for, costs the same in each region.
+        if place >= length {
+            return Err(Refusal::NoWord);
+        }
+        let begin = self.begin(position);
+        Ok(self.memory[begin + place])
     }
 
     fn within(&self, most: usize) -> bool {

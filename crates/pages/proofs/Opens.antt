@@ -4,7 +4,7 @@ use Rattle.std.proofs.lemmas.List.{length_push, map_push}
 use Rattle.std.proofs.lemmas.List.Sums.{sum_by_push}
 use Rattle.std.proofs.lemmas.List.Elements.{All-push}
 use Rattle.regions.specs.Rules.{pages_total}
-use Rattle.pages.specs.Chain.{texts, links, chain, chains, lengths_of, none, IsEnded, times, times_in, words_of}
+use Rattle.pages.specs.Chain.{chain, chains, lengths_of, none, IsEnded, times, times_in, words_of}
 use Rattle.pages.specs.Held.{holds}
 use Rattle.pages.specs.declared.chain.Chain.{Chain}
 use Rattle.pages.specs.declared.pages.Pages.{Pages}
@@ -13,9 +13,9 @@ use Rattle.pages.proofs.States.{Kept, held}
 
 -- where cs are the chains then
 module _ (x : Pages) (few : length x.stack.items < 64) (cs : List Chain) (written : cs ≡ x.stack.items ++ none ∷ []) where
-  pub kept_open : Kept x.pages cs x.free x.left x.most
+  pub kept_open : Kept x.pages x.next cs x.free x.left x.most
   kept_open =
-      let next = links x.pages in
+      let next = x.next in
       let old = x.stack.items in
       rw written record {
         sized = x.sized;
@@ -26,5 +26,5 @@ module _ (x : Pages) (few : length x.stack.items < 64) (cs : List Chain) (writte
         ends = All-push (IsEnded next) old none x.ends (λ words. absurd (omega arith));
       }
 
-  pub held_open : held x.pages cs ≡ holds x ++ [] ∷ []
-  held_open = rw written (map_push (words_of (texts x.pages) (links x.pages)) x.stack.items none)
+  pub held_open : held x.pages x.next cs ≡ holds x ++ [] ∷ []
+  held_open = rw written (map_push (words_of x.pages x.next) x.stack.items none)

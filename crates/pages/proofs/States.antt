@@ -6,10 +6,9 @@ use Rattle.std.proofs.lemmas.List.Elements.{All-get_or}
 use Rattle.std.specs.Prelude.{All}
 use Rattle.regions.specs.Model.{Regions, lengths, region}
 use Rattle.regions.specs.Rules.{pages_of, pages_total}
-use Rattle.pages.specs.Chain.{texts, links, walk, chain, chains, lengths_of, none, IsEnded, times, times_in, at_most, gather, words_of}
+use Rattle.pages.specs.Chain.{walk, chain, chains, lengths_of, none, IsEnded, times, times_in, at_most, gather, words_of}
 use Rattle.pages.specs.Held.{holds, way}
 use Rattle.pages.specs.declared.chain.Chain.{Chain}
-use Rattle.pages.specs.declared.chain.Page.{Page}
 use Rattle.pages.specs.declared.pages.Pages.{Pages}
 use Rattle.pages.proofs.Lists.{get_or-map_default}
 use Rattle.pages.proofs.Links.{bounded_one, bounded_none, times-at, times-two, length-walk}
@@ -20,22 +19,18 @@ pages_at [] i = omega arith
 pages_at (c ∷ cs) zero = omega arith
 pages_at (c ∷ cs) (suc i) = omega (arith, pages_at cs i)
 
--- what stands beyond the last page
-abbrev pub blank : Page
-blank = record { words = []; next = 0 }
+-- what chains hold over pages and links
+abbrev pub held : List (List ℕ) → List ℕ → List Chain → Regions
+held ps next cs = map (words_of ps next) cs
 
--- what chains hold over pages
-abbrev pub held : List Page → List Chain → Regions
-held ps cs = map (words_of (texts ps) (links ps)) cs
-
--- what the invariant says of pages, chains, the first free page, how many are free, and how many there may be
-pub record Kept (ps : List Page) (cs : List Chain) (f n m : ℕ) : Type 0 where
-  pub sized : length ps ≡ 256
-  pub wide : All (λ p. length p.words ≡ 16) ps
+-- what the invariant says of pages, links, chains, the first free page, how many are free, and how many there may be
+pub record Kept (ps : List (List ℕ)) (next : List ℕ) (cs : List Chain) (f n m : ℕ) : Type 0 where
+  pub sized : (length ps ≡ 256) × (length next ≡ 256)
+  pub wide : All (λ p. length p ≡ 16) ps
   pub few : (length cs ≤ 64) × (m ≤ 256)
   pub sum : pages_total (lengths_of cs) + n ≡ m
-  pub once : (x : ℕ) → times_in x (chains (links ps) cs) + times x (walk (links ps) f n) ≤ at_most x
-  pub ends : All (IsEnded (links ps)) cs
+  pub once : (x : ℕ) → times_in x (chains next cs) + times x (walk next f n) ≤ at_most x
+  pub ends : All (IsEnded next) cs
 
 -- the chain of the region at p
 abbrev pub at : Pages → ℕ → Chain
@@ -43,36 +38,30 @@ at x p = get_or x.stack.items p none
 
 -- the pages that are free
 abbrev pub rest : Pages → List ℕ
-rest x = walk (links x.pages) x.free x.left
+rest x = walk x.next x.free x.left
 
 module _ (x : Pages) where
-  pub linked : length (links x.pages) ≡ 256
-  linked = length-map x.pages (λ p. p.next) ∙ x.sized
+  pub wide_at : (p : ℕ) → p < 256 → length (get_or x.pages p []) ≡ 16
+  wide_at p h = All-get_or (λ (q : List ℕ). length q ≡ 16) x.pages p [] (omega (arith, x.sized.0, h)) x.wide
 
-  pub many : length (texts x.pages) ≡ 256
-  many = length-map x.pages (λ p. p.words) ∙ x.sized
+  pub ended : (p : ℕ) → p < length x.stack.items → IsEnded x.next (at x p)
+  ended p h = All-get_or (IsEnded x.next) x.stack.items p none h x.ends
 
-  pub wide_at : (p : ℕ) → p < 256 → length (get_or (texts x.pages) p []) ≡ 16
-  wide_at p h = ap length (get_or-map_default (λ (q : Page). q.words) x.pages p blank) ∙ All-get_or (λ (q : Page). length q.words ≡ 16) x.pages p blank (omega (arith, x.sized)) x.wide
-
-  pub ended : (p : ℕ) → p < length x.stack.items → IsEnded (links x.pages) (at x p)
-  ended p h = All-get_or (IsEnded (links x.pages)) x.stack.items p none h x.ends
-
-  pub chain_at : (p : ℕ) → get_or (chains (links x.pages) x.stack.items) p [] ≡ way x p
-  chain_at p = get_or-map_default (chain (links x.pages)) x.stack.items p none
+  pub chain_at : (p : ℕ) → get_or (chains x.next x.stack.items) p [] ≡ way x p
+  chain_at p = get_or-map_default (chain x.next) x.stack.items p none
 
   -- a page of a region is in no other, and not free
   pub apart : (q p j : ℕ) → (j ≡ p → ⊥) → 1 ≤ times q (way x p) → times q (way x j) ≡ 0
-  apart q p j ne h = omega (arith, times-two q (chains (links x.pages) x.stack.items) p j ne, x.once q, bounded_one q, ap (times q) (chain_at p), ap (times q) (chain_at j))
+  apart q p j ne h = omega (arith, times-two q (chains x.next x.stack.items) p j ne, x.once q, bounded_one q, ap (times q) (chain_at p), ap (times q) (chain_at j))
 
   pub once_in : (q p : ℕ) → times q (way x p) + times q (rest x) ≤ 1
-  once_in q p = omega (arith, times-at q (chains (links x.pages) x.stack.items) p, x.once q, bounded_one q, ap (times q) (chain_at p))
+  once_in q p = omega (arith, times-at q (chains x.next x.stack.items) p, x.once q, bounded_one q, ap (times q) (chain_at p))
 
   pub inside : (p : ℕ) → Inside (way x p)
-  inside p q g = omega (arith, times-at q (chains (links x.pages) x.stack.items) p, x.once q, bounded_none q g, ap (times q) (chain_at p))
+  inside p q g = omega (arith, times-at q (chains x.next x.stack.items) p, x.once q, bounded_none q g, ap (times q) (chain_at p))
 
   pub length-way : (p : ℕ) → length (way x p) ≡ pages_of (at x p).length
-  length-way p = length-walk (links x.pages) (at x p).top (pages_of (at x p).length)
+  length-way p = length-walk x.next (at x p).top (pages_of (at x p).length)
 
   pub page_below : (p i : ℕ) → i < length (way x p) → get_or (way x p) i 0 < 256
   page_below p i h = inside-at (way x p) i (inside p) h
@@ -86,33 +75,33 @@ module _ (x : Pages) where
       (cases_lt p (length x.stack.items))
 
   -- the region at p has as many words as its length says
-  pub region_is : (p : ℕ) → region (holds x) p ≡ words_of (texts x.pages) (links x.pages) (at x p)
-  region_is p = get_or-map_default (words_of (texts x.pages) (links x.pages)) x.stack.items p none
+  pub region_is : (p : ℕ) → region (holds x) p ≡ words_of x.pages x.next (at x p)
+  region_is p = get_or-map_default (words_of x.pages x.next) x.stack.items p none
 
   pub length_is : (p : ℕ) → length (region (holds x) p) ≡ (at x p).length
   length_is p =
       ap length (region_is p)
-      ∙ length-take-le (at x p).length (gather (texts x.pages) (way x p))
-      (omega (arith, length-gather (texts x.pages) wide_at (way x p) (inside p), length-way p))
+      ∙ length-take-le (at x p).length (gather x.pages (way x p))
+      (omega (arith, length-gather x.pages wide_at (way x p) (inside p), length-way p))
 
   pub lengths_are : lengths (holds x) ≡ lengths_of x.stack.items
   lengths_are =
-      ext_get_or 0 _ _ (length-map (holds x) length ∙ length-map x.stack.items (words_of (texts x.pages) (links x.pages)) ∙ sym (length-map x.stack.items (λ c. c.length)))
+      ext_get_or 0 _ _ (length-map (holds x) length ∙ length-map x.stack.items (words_of x.pages x.next) ∙ sym (length-map x.stack.items (λ c. c.length)))
       (λ i h. get_or-map_default length (holds x) i [] ∙ length_is i ∙ sym (get_or-map_default (λ (c : Chain). c.length) x.stack.items i none))
 
   pub count_is : length (holds x) ≡ length x.stack.items
-  count_is = length-map x.stack.items (words_of (texts x.pages) (links x.pages))
+  count_is = length-map x.stack.items (words_of x.pages x.next)
 
   pub fits : (p : ℕ) → pages_of (at x p).length + x.left ≤ 256
   fits p = omega (arith, x.sum, x.few.1, pages_at x.stack.items p)
 
   -- the word at i of the region at p
-  pub word_is : (p i : ℕ) → i < (at x p).length → get_or (region (holds x) p) i 0 ≡ get_or (get_or (texts x.pages) (get_or (way x p) (((at x p).length - 1) / 16 - i / 16) 0) []) (i % 16) 0
+  pub word_is : (p i : ℕ) → i < (at x p).length → get_or (region (holds x) p) i 0 ≡ get_or (get_or x.pages (get_or (way x p) (((at x p).length - 1) / 16 - i / 16) 0) []) (i % 16) 0
   word_is p i l =
       let w = way x p in
       let n = length-way p in
       let e : length w - 1 - i / 16 ≡ ((at x p).length - 1) / 16 - i / 16 = omega (arith, n) in
       ap (λ r. get_or r i 0) (region_is p)
-      ∙ get_or-take (at x p).length (gather (texts x.pages) w) i 0 l
-      ∙ gather-at (texts x.pages) wide_at w i (inside p) (omega (arith, n))
-      ∙ ap (λ b. get_or (get_or (texts x.pages) (get_or w b 0) []) (i % 16) 0) e
+      ∙ get_or-take (at x p).length (gather x.pages w) i 0 l
+      ∙ gather-at x.pages wide_at w i (inside p) (omega (arith, n))
+      ∙ ap (λ b. get_or (get_or x.pages (get_or w b 0) []) (i % 16) 0) e

@@ -2,15 +2,6 @@
 use Rattle.std.specs.Prelude.{◌≡◌, ℕ, zero, suc, ◌-◌, ◌<◌, cond, List, [], ◌∷◌, ◌++◌, length, map, take, count_by, sum_by, ◌==◌, nat_lt, slice_index, slice_index_or}
 use Rattle.regions.specs.Rules.{pages_of}
 use Rattle.pages.specs.declared.chain.Chain.{Chain}
-use Rattle.pages.specs.declared.chain.Page.{Page}
-
--- the words of each page
-abbrev pub texts : List Page → List (List ℕ)
-texts ps = map (λ p. p.words) ps
-
--- the page that each page links to
-abbrev pub links : List Page → List ℕ
-links ps = map (λ p. p.next) ps
 
 -- how many words each region has
 abbrev pub lengths_of : List Chain → List ℕ

@@ -1,14 +1,8 @@
-// Pages, and the chains of them that hold the regions' words.
+// Chains of pages, which hold the regions' words.
 ghost use Rattle.std.specs.Prelude.{◌≡◌, if◌then◌else◌, nat_eq};
 
 // How many words a page has.
 pub(crate) const PAGE: usize = 16;
-
-#[derive(Clone, Copy)]
-pub(crate) struct Page {
-    pub(crate) words: [u32; PAGE],
-    pub(crate) next: usize,
-}
 
 // A region's newest and oldest page, and how many words it has. One without words has no page, which its length says already.
 #[derive(Clone, Copy, Default)]

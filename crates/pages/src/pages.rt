@@ -2,9 +2,9 @@
 ghost use Rattle.std.specs.Prelude.{◌≡◌, ℕ, ◌+◌, ◌<◌, ◌≤◌, All, [], ◌∷◌, ◌++◌, length, slice_index, slice_set};
 ghost use Rattle.regions.specs.Model.{region, close_after};
 ghost use Rattle.regions.specs.Rules.{pages_of, pages_total, pages_rule};
-ghost use Rattle.pages.specs.Chain.{links, walk, chains, lengths_of, IsEnded, times, times_in, at_most};
+ghost use Rattle.pages.specs.Chain.{walk, chains, lengths_of, IsEnded, times, times_in, at_most};
 
-use crate::chain::{Chain, PAGE, Page};
+use crate::chain::{Chain, PAGE};
 use regions::refusal::Refusal;
 use regions::store::RegionStore;
 use rows::row::Row;
@@ -17,20 +17,22 @@ const MOST: usize = 64;
 const PAGES: usize = 256;
 
 // The chains are linked from the newest page to the oldest, and so is the list of the pages that are free: by numbers of
-// pages, which lie in the store itself, since a store never allocates.
+// pages, which lie in the store itself, since a store never allocates. The links stand beside the pages and not in them, so
+// that a walk, which reads nothing else, goes over 2 KiB in place of 18.
 #[derive(Drop)]
 pub struct Pages {
-    pages: [Page; PAGES],
+    pages: [[u32; PAGE]; PAGES],
+    next: [usize; PAGES],
     stack: Row<Chain, MOST>,
     free: usize,
     left: usize,
     most: usize,
-    ghost sized: { length pages ≡ 256 },
-    ghost wide: { All (λ p. length p.words ≡ 16) pages },
+    ghost sized: { (length pages ≡ 256) × (length next ≡ 256) },
+    ghost wide: { All (λ p. length p ≡ 16) pages },
     ghost few: { (length stack.items ≤ 64) × (most ≤ 256) },
     ghost sum: { pages_total (lengths_of stack.items) + left ≡ most },
-    ghost once: { (x : ℕ) → times_in x (chains (links pages) stack.items) + times x (walk (links pages) free left) ≤ at_most x },
-    ghost ends: { All (IsEnded (links pages)) stack.items },
+    ghost once: { (x : ℕ) → times_in x (chains next stack.items) + times x (walk next free left) ≤ at_most x },
+    ghost ends: { All (IsEnded next) stack.items },
 }
 
 // How many pages hold so many words.
@@ -50,10 +52,8 @@ impl Pages {
     {
         let most = pages.min(PAGES);
         Pages {
-            pages: array::from_fn(|i| Page {
-                words: [0; PAGE],
-                next: i + 1,
-            }),
+            pages: [[0; PAGE]; PAGES],
+            next: array::from_fn(|i| i + 1),
             stack: Row::new(Chain::default()),
             free: 0,
             left: most,
@@ -70,22 +70,27 @@ impl Pages {
         let mut page = self.stack[position].top;
         // Links are followed by their number: no list of them stands anywhere to go over.
         for _hop in 0..back {
-            page = self.pages[page].next;
+            page = self.next[page];
         }
         page
     }
 
-    // Puts a word after a region's words: in its newest page, or where that is full in one from the free list.
-    fn push(&mut self, position: usize, word: u32)
+    // Puts a word after a region's words, of which there are `count`: in its newest page, or where that is full in one from the free
+    // list. The caller knows their number, so that a second word need not wait for the first one's to be read again.
+    fn push(&mut self, position: usize, count: usize, word: u32)
         requires here { position < length self.old.stack.items }
+        requires count { count ≡ length (region (holds self.old) position) }
         requires room { pages_of (length (region (holds self.old) position) + 1) ≤ pages_of (length (region (holds self.old) position)) + self.old.left }
         ensures held { holds self.new ≡ slice_set (holds self.old) position (region (holds self.old) position ++ word ∷ []) }
         ensures most { self.new.most ≡ self.old.most }
     {
-        let chain = self.stack[position];
+        let chain = Chain {
+            length: count,
+            ..self.stack[position]
+        };
         let place = chain.length % PAGE;
         if place > 0 {
-            self.pages[chain.top].words[place] = word;
+            // The row before the page: what else the chain holds is then written as it was just read, which costs nothing.
             self.stack.set(
                 position,
                 Chain {
@@ -93,15 +98,13 @@ impl Pages {
                     ..chain
                 },
             );
+            self.pages[chain.top][place] = word;
         } else {
             let page = self.free;
-            self.free = self.pages[page].next;
+            self.free = self.next[page];
             self.left -= 1;
-            // No one reads the other words before they are written.
-            self.pages[page] = Page {
-                words: [word; PAGE],
-                next: chain.top,
-            };
+            self.next[page] = chain.top;
+            self.pages[page][0] = word;
             self.stack.set(
                 position,
                 Chain {
@@ -123,7 +126,7 @@ impl Pages {
         let chain = self.stack[top];
         self.stack.truncate(top);
         if chain.length > 0 {
-            self.pages[chain.bottom].next = self.free;
+            self.next[chain.bottom] = self.free;
             self.free = chain.top;
             self.left += pages_for(chain.length);
         }
@@ -153,11 +156,12 @@ impl RegionStore for Pages {
 
     fn put(&mut self, position: usize, first: u32, second: u32) -> Result<usize, Refusal> {
         let length = self.stack.get(position).ok_or(Refusal::NoRegion)?.length;
-        if pages_for(length + 2) > pages_for(length) + self.left {
+        // What fits into the region's pages and into those that are left.
+        if length + 2 > PAGE * (pages_for(length) + self.left) {
             return Err(Refusal::Denied);
         }
-        self.push(position, first);
-        self.push(position, second);
+        self.push(position, length, first);
+        self.push(position, length + 1, second);
         Ok(length)
     }
 
@@ -167,7 +171,7 @@ impl RegionStore for Pages {
             return Err(Refusal::NoWord);
         }
         let page = self.page_at(position, (length - 1) / PAGE - place / PAGE);
-        Ok(self.pages[page].words[place % PAGE])
+        Ok(self.pages[page][place % PAGE])
     }
 
     fn within(&self, most: usize) -> bool {

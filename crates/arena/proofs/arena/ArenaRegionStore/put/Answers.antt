@@ -12,13 +12,13 @@ returns-then-position-len c =
 pub returns-then-capacity-used-lt2 : goal.returns-then-capacity-used-lt2
 returns-then-capacity-used-lt2 c =
     let x = c.args.self.now in
-    let t = put_full x.lens.items x.memory.items x.memory.len x.fits x.memory.ok.0 c.args.position (c.args.first ∷ c.args.second ∷ []) (omega arith) x.few (omega (arith, c.used.ensures, c.capacity.ensures)) in
+    let t = put_full x.lens.items x.memory.items x.memory.len x.fits x.memory.ok.0 c.args.position (c.args.first ∷ c.args.second ∷ []) (omega arith) x.few (omega (arith, c.used-used.ensures, c.capacity.ensures)) in
     record { answer = sym t.0; after = sym t.1; rule = refl }
 
 pub returns : goal.returns
 returns c =
     let x = c.args.self.now in
-    let t = put_room x.lens.items x.memory.items x.memory.len x.fits x.memory.ok.0 c.args.position (c.args.first ∷ c.args.second ∷ []) (omega arith) x.few (omega (arith, c.used.ensures, c.capacity.ensures)) in
+    let t = put_room x.lens.items x.memory.items x.memory.len x.fits x.memory.ok.0 c.args.position (c.args.first ∷ c.args.second ∷ []) (omega arith) x.few (omega (arith, c.used-used.ensures, c.capacity.ensures)) in
     record {
       answer = ap Ok c.append.ensures.old ∙ sym t.0;
       after = c.append.ensures.regions ∙ sym t.1;

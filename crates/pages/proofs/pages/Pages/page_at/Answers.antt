@@ -1,10 +1,7 @@
 use Rattle.std.proofs.Common.{◌≡◌, get_or, sym, ap, ◌∙◌, arith}
 use Rattle.regions.specs.Rules.{pages_of}
-use Rattle.pages.specs.Chain.{links}
 use Rattle.pages.proofs.Links.{walk_step}
-use Rattle.pages.proofs.Lists.{get_or-map_default}
-use Rattle.pages.proofs.States.{blank, at, length-way, page_below, here}
-use Rattle.pages.specs.declared.chain.Page.{Page}
+use Rattle.pages.proofs.States.{at, length-way, page_below, here}
 use Rattle.pages.proofs.pages.Pages.page_at.Goals as goal
 
 pub bounds-deref-position : goal.bounds-deref-position
@@ -20,9 +17,8 @@ pub loop-hop-preserved : goal.loop-hop-preserved
 loop-hop-preserved c =
     let x = c.args.self.now in
     let p = c.args.position in
-    sym (get_or-map_default (λ (q : Page). q.next) x.pages c.loop-hop.page blank)
-    ∙ ap (λ q. get_or (links x.pages) q 0) c.loop-hop.invariant
-    ∙ sym (walk_step (links x.pages) (at x p).top (pages_of (at x p).length) c.loop-hop._hop (omega (arith, c.requires, length-way x p)))
+    ap (λ q. get_or x.next q 0) c.loop-hop.invariant
+    ∙ sym (walk_step x.next (at x p).top (pages_of (at x p).length) c.loop-hop._hop (omega (arith, c.requires, length-way x p)))
 
 pub returns-clause-within : goal.returns-clause-within
 returns-clause-within c =

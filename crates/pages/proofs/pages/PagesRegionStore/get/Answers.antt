@@ -1,9 +1,6 @@
 use Rattle.std.proofs.Common.{◌≡◌, ◌-◌, ◌/◌, ◌%◌, ◌<◌, [], length, get_or, Ok, sym, ap, ◌∙◌, arith, rules}
 use Rattle.regions.proofs.Answered.{get_word}
-use Rattle.pages.specs.Chain.{texts}
 use Rattle.pages.specs.Held.{holds, way}
-use Rattle.pages.specs.declared.chain.Page.{Page}
-use Rattle.pages.proofs.Lists.{get_or-map_default}
 use Rattle.pages.proofs.States.{at, length-way, count_is, length_is, word_is}
 use Rattle.pages.proofs.pages.PagesRegionStore.get.Goals as goal
 
@@ -15,9 +12,7 @@ returns c =
     let here : p < length x.stack.items = search rules in
     let len : c.in_ok-length.field-0.now.length ≡ (at x p).length = search rules in
     let past : i < (at x p).length = omega (arith, len, c.if-place-length.false) in
-    let q = c.page_at-page.result in
-    ap (λ ws. Ok (get_or ws (i % 16) 0)) (sym (get_or-map_default (λ (t : Page). t.words) x.pages q (record { words = []; next = 0 })))
-    ∙ ap (λ r. Ok (get_or (get_or (texts x.pages) r []) (i % 16) 0)) (c.page_at-page.ensures.is ∙ ap (λ l. get_or (way x p) ((l - 1) / 16 - i / 16) 0) len)
+    ap (λ r. Ok (get_or (get_or x.pages r []) (i % 16) 0)) (c.page_at-page.ensures.is ∙ ap (λ l. get_or (way x p) ((l - 1) / 16 - i / 16) 0) len)
     ∙ ap Ok (sym (word_is x p i past))
     ∙ sym (get_word (holds x) p i (omega (arith, count_is x, here)) (omega (arith, length_is x p, past)))
 

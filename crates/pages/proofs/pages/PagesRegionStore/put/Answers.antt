@@ -12,28 +12,52 @@ overflow_add-length c =
     let len : c.in_ok-length.field-0.now.length ≡ (at c.args.self.now c.args.position).length = search rules in
     omega (arith, len, fits c.args.self.now c.args.position)
 
+pub overflow_add-length-2 : goal.overflow_add-length-2
+overflow_add-length-2 c =
+    let len : c.in_ok-length.field-0.now.length ≡ (at c.args.self.now c.args.position).length = search rules in
+    omega (arith, len, fits c.args.self.now c.args.position)
+
 pub overflow_add-pages_for : goal.overflow_add-pages_for
 overflow_add-pages_for c =
     let len : c.in_ok-length.field-0.now.length ≡ (at c.args.self.now c.args.position).length = search rules in
-    omega (arith, len, fits c.args.self.now c.args.position, c.pages_for-2.ensures)
+    omega (arith, len, fits c.args.self.now c.args.position)
 
-pub returns-then-pages_for-self : goal.returns-then-pages_for-self
-returns-then-pages_for-self c =
+pub overflow_mul-pages_for : goal.overflow_mul-pages_for
+overflow_mul-pages_for c =
+    let len : c.in_ok-length.field-0.now.length ≡ (at c.args.self.now c.args.position).length = search rules in
+    omega (arith, len, fits c.args.self.now c.args.position, c.pages_for.ensures)
+
+pub returns-then-length-pages_for : goal.returns-then-length-pages_for
+returns-then-length-pages_for c =
     let x = c.args.self.now in
     let p = c.args.position in
     let new = c.args.first ∷ c.args.second ∷ [] in
     let here : p < length x.stack.items = search rules in
     let len : c.in_ok-length.field-0.now.length ≡ (at x p).length = search rules in
-    let no = may_put_is x p here new false (lt-leb (pages_of ((at x p).length + 2)) (pages_of (at x p).length + x.left) (omega (arith, len, c.pages_for.ensures, c.pages_for-2.ensures, c.if-pages_for-self.true))) in
+    let no = may_put_is x p here new false (lt-leb (pages_of ((at x p).length + 2)) (pages_of (at x p).length + x.left) (omega (arith, len, c.pages_for.ensures, c.if-length-pages_for.true))) in
     let t = put_denied (pages_rule x.most) (holds x) p new (omega (arith, count_is x, here)) no in
     record { answer = sym t.0; after = sym t.1; rule = search rules }
+
+pub push-requires-clause-count : goal.push-requires-clause-count
+push-requires-clause-count c =
+    let x = c.args.self.now in
+    let len : c.in_ok-length.field-0.now.length ≡ (at x c.args.position).length = search rules in
+    len ∙ sym (length_is x c.args.position)
+
+pub push-requires-2-clause-count : goal.push-requires-2-clause-count
+push-requires-2-clause-count c =
+    let x = c.args.self.now in
+    let p = c.args.position in
+    let here : p < length x.stack.items = search rules in
+    let len : c.in_ok-length.field-0.now.length ≡ (at x p).length = search rules in
+    omega (arith, len, length_after x p here c.push.new.self c.args.first c.push.ensures.held c.push.ensures.most)
 
 pub push-requires-clause-room : goal.push-requires-clause-room
 push-requires-clause-room c =
     let x = c.args.self.now in
     let p = c.args.position in
     let len : c.in_ok-length.field-0.now.length ≡ (at x p).length = search rules in
-    omega (arith, len, length_is x p, c.pages_for.ensures, c.pages_for-2.ensures, c.if-pages_for-self.false)
+    omega (arith, len, length_is x p, c.pages_for.ensures, c.if-length-pages_for.false)
 
 pub push-requires-2-clause-room : goal.push-requires-2-clause-room
 push-requires-2-clause-room c =
@@ -42,7 +66,7 @@ push-requires-2-clause-room c =
     let p = c.args.position in
     let here : p < length x.stack.items = search rules in
     let len : c.in_ok-length.field-0.now.length ≡ (at x p).length = search rules in
-    omega (arith, length_after x p here y c.args.first c.push.ensures.held c.push.ensures.most, len, left_after x p here y c.args.first c.push.ensures.held c.push.ensures.most, c.pages_for.ensures, c.pages_for-2.ensures, c.if-pages_for-self.false)
+    omega (arith, length_after x p here y c.args.first c.push.ensures.held c.push.ensures.most, len, left_after x p here y c.args.first c.push.ensures.held c.push.ensures.most, c.pages_for.ensures, c.if-length-pages_for.false)
 
 pub returns : goal.returns
 returns c =
@@ -51,7 +75,7 @@ returns c =
     let new = c.args.first ∷ c.args.second ∷ [] in
     let here : p < length x.stack.items = search rules in
     let len : c.in_ok-length.field-0.now.length ≡ (at x p).length = search rules in
-    let yes = may_put_is x p here new true (le-leb (pages_of ((at x p).length + 2)) (pages_of (at x p).length + x.left) (omega (arith, len, c.pages_for.ensures, c.pages_for-2.ensures, c.if-pages_for-self.false))) in
+    let yes = may_put_is x p here new true (le-leb (pages_of ((at x p).length + 2)) (pages_of (at x p).length + x.left) (omega (arith, len, c.pages_for.ensures, c.if-length-pages_for.false))) in
     let t = put_granted (pages_rule x.most) (holds x) p new (omega (arith, count_is x, here)) yes in
     record {
       answer = ap Ok (len ∙ sym (length_is x p)) ∙ sym t.0;
