@@ -4,6 +4,7 @@ use Rattle.language.specs.Scope.{Scope, Variable, with_region, with_variable, em
 use Rattle.draft.specs.declared.table.Table.{Table}
 use Rattle.draft.specs.Items.{text_of, items, ident}
 use Rattle.scope.specs.declared.search.Variable.{Variable as Entry}
+use Rattle.scope.specs.declared.state.Counts.{Counts}
 use Rattle.scope.specs.declared.state.State.{State}
 use Rattle.scope.specs.declared.types.Sort.{Sort}
 use Rattle.draft.specs.declared.command.Name.{Name as Stands}
@@ -20,6 +21,10 @@ scope_of t s =
       regions = map (bytes (text_of t)) s.regions.items;
       variables = map (variable_of t) s.variables.items;
     }
+
+-- how many regions and how many variables are in scope
+abbrev pub counts_of : State → Counts
+counts_of s = record { regions = length s.regions.items; variables = length s.variables.items }
 
 -- all that was in scope at first still stands in its place
 pub record Grown (s u : State) : Type 0 where

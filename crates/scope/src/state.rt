@@ -1,10 +1,10 @@
 // What is in scope: regions and variables, the outermost first, and the guard that puts them back.
-ghost use Rattle.std.specs.Prelude.{◌≡◌, ◌<◌, length, take, OnOk};
+ghost use Rattle.std.specs.Prelude.{◌≡◌, ◌<◌, ◌≤◌, length, take, OnOk};
 ghost use Rattle.language.specs.Syntax.{var};
 ghost use Rattle.language.specs.Checking.{type_atom, new_region, new_variable};
 ghost use Rattle.draft.specs.Items.{text_of, items, ident};
 ghost use Rattle.scope.specs.Words.{bytes, type_of};
-ghost use Rattle.scope.specs.Entries.{scope_of, Grown, Empty, AddsRegion, AddsVariable};
+ghost use Rattle.scope.specs.Entries.{scope_of, counts_of, Grown, Empty, AddsRegion, AddsVariable};
 ghost use Rattle.scope.specs.Verdicts.{told, passed, known};
 
 use crate::search::{Variable, found, free};
@@ -35,17 +35,20 @@ pub struct State {
 pub struct Hold<'a> {
     pub state: &'a mut State,
     pub saved: Counts,
+    // What was saved is still there.
+    ghost held_regions: { saved.regions ≤ length state.now.regions.items },
+    ghost held_variables: { saved.variables ≤ length state.now.variables.items },
 }
 
 impl Drop for Hold<'_> {
     fn drop(self)
+        ensures counts { counts_of self.exit.0.now ≡ self.entry.saved }
         ensures regions { self.exit.0.now.regions.items ≡ take self.entry.saved.regions self.entry.state.now.regions.items }
         ensures variables { self.exit.0.now.variables.items ≡ take self.entry.saved.variables self.entry.state.now.variables.items }
     {
-        let Counts { regions, variables } = self.saved;
-        self.state.regions.truncate(regions);
-        self.state.variables.truncate(variables);
-        let Hold { state: _, saved: _ } = self;
+        let Hold { state, saved } = self;
+        state.regions.truncate(saved.regions);
+        state.variables.truncate(saved.variables);
     }
 }
 
