@@ -29,7 +29,8 @@ const K: Class = Class::Mark;
 
 const M: Class = Class::Minus;
 
-const CLASSES: [Class; 256] = [
+// A static and no const: a const of an enum's values is laid down anew, all 256 of them, wherever a byte is looked up.
+static CLASSES: [Class; 256] = [
     O, O, O, O, O, O, O, O, O, B, B, O, O, B, O, O, O, O, O, O, O, O, O, O, O, O, O, O, O, O, O, O,
     B, O, O, O, O, O, O, O, K, K, O, O, K, M, O, O, D, D, D, D, D, D, D, D, D, D, K, K, O, K, O, O,
     K, O, O, O, O, O, O, O, O, O, O, O, O, O, O, O, O, O, O, O, O, O, O, O, O, O, O, K, O, K, O, U,

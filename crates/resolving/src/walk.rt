@@ -22,9 +22,12 @@ pub fn block(names: &Names<'_>, tape: &mut Tape, position: usize, way: Way) -> E
     match command_at(names.table, position) {
         Some(Item::Let(name)) => {
             let value = right(names, tape, position + 1);
-            let mut state = names.state;
-            state.add_variable(name, value.sort);
-            let more = Names { state, ..*names };
+            // One copy of the names and no second one beside it: each item of a block keeps its frame.
+            let mut more = Names {
+                state: names.state,
+                ..*names
+            };
+            more.state.add_variable(name, value.sort);
             block(&more, tape, value.position, way)
         }
         Some(Item::Print(place)) => {
@@ -120,9 +123,11 @@ fn open(names: &Names<'_>, tape: &mut Tape, start: Start, place: usize, name: Na
 {
     let slot = names.state.variables.len();
     let region = names.state.regions.len();
-    let mut state = names.state;
-    state.add_region(name);
-    let inner = Names { state, ..*names };
+    let mut inner = Names {
+        state: names.state,
+        ..*names
+    };
+    inner.state.add_region(name);
     let at = tape.len();
     tape.push(Command::Open { place, region });
     block(&inner, tape, start.position + 1, Way::Return);
@@ -154,9 +159,11 @@ fn split(names: &Names<'_>, tape: &mut Tape, start: Start, place: usize) -> End
     });
     let middle = block(names, tape, start.position + 2, Way::Return);
     let second = tape.len();
-    let mut state = names.state;
-    let other = split_names(names.table, &mut state, known.sort, middle.position);
-    let inner = Names { state, ..*names };
+    let mut inner = Names {
+        state: names.state,
+        ..*names
+    };
+    let other = split_names(names.table, &mut inner.state, known.sort, middle.position);
     block(&inner, tape, other, Way::Return);
     let next = tape.len();
     let way = Way::Leave {

@@ -10,17 +10,17 @@ use reading::read::read;
 use std::io;
 use std::io::{BufRead, BufReader};
 
-// What reading and then checking a text answers.
-fn verdict(text: &[u8]) -> Result<(), Fault> {
+// What reading and then checking a text answers; the program is then that of the text, or the one that was there.
+fn verdict(text: &[u8], program: &mut Program) -> Result<(), Fault> {
     let mut draft = Draft::new();
     read(text, &mut draft)?;
-    check(draft, &mut Program::empty())
+    check(draft, program)
 }
 
 // Answers one line.
-fn answer(rt: &HostRuntime, number: u64, line: &str) -> io::Result<()> {
+fn answer(rt: &HostRuntime, program: &mut Program, number: u64, line: &str) -> io::Result<()> {
     match unescape(rt.alloc(), line.as_bytes()) {
-        Ok(text) => match verdict(text.as_slice()) {
+        Ok(text) => match verdict(text.as_slice(), program) {
             Ok(()) => println!(rt; "ok"),
             Err(fault) => println!(rt; "refused {} at {}", fault.question.number(), fault.place),
         },
@@ -30,9 +30,11 @@ fn answer(rt: &HostRuntime, number: u64, line: &str) -> io::Result<()> {
 
 // Answers each line of standard input.
 pub fn serve(rt: &HostRuntime) -> io::Result<()> {
+    // One program for all lines: it is a quarter of a mebibyte, and each script that passes replaces it.
+    let mut program = Program::empty();
     let lines = BufReader::new(rt.alloc(), rt.stdin())?.lines(rt.alloc());
     for (number, line) in (1u64..).zip(lines) {
-        answer(rt, number, line?.as_str())?;
+        answer(rt, &mut program, number, line?.as_str())?;
     }
     Ok(())
 }
