@@ -9,12 +9,14 @@ pub fn locate(text: &[u8], place: usize) -> Position
     ensures { result ≡ position_of (take place text.now) }
 {
     let (front, _) = text.split_at(place.min(text.len()));
-    let feeds = front.iter().filter(|byte| **byte == b'\n').count();
     let behind = front
         .iter()
         .rev()
         .take_while(|byte| **byte != b'\n')
         .count();
+    // Feeds stand before that alone, so that each byte is looked at once.
+    let (before, _) = front.split_at(front.len() - behind);
+    let feeds = before.iter().filter(|byte| **byte == b'\n').count();
     Position {
         line: 1 + feeds,
         column: 1 + behind,
