@@ -3,14 +3,14 @@ use Rattle.std.proofs.Common.{◌≡◌, ℕ, suc, ◌+◌, ◌-◌, ◌%◌, �
 use Rattle.std.proofs.lemmas.List.{length-map, length-set, map-set, set-get_or, get_or-set_same}
 use Rattle.std.proofs.lemmas.Bool.{eq-eqb, ne_eqb, cases_lt}
 use Rattle.std.proofs.lemmas.List.Sums.{sum_by-set}
-use Rattle.std.proofs.lemmas.List.Elements.{All-set, All-get_or, All-from_get_or}
+use Rattle.std.proofs.lemmas.List.Elements.{All-set, All-from_get_or}
 use Rattle.regions.specs.Model.{region}
 use Rattle.regions.specs.Rules.{pages_of}
 use Rattle.pages.specs.Chain.{walk, chain, chains, none, IsEnded, oldest, times, times_in, gather, words_of}
 use Rattle.pages.specs.Held.{holds, way}
 use Rattle.pages.specs.declared.chain.Chain.{Chain}
 use Rattle.pages.specs.declared.pages.Pages.{Pages}
-use Rattle.pages.proofs.Lists.{get_or-map_default, map_one, pages_set}
+use Rattle.pages.proofs.Lists.{map_one, pages_set}
 use Rattle.pages.proofs.Links.{times-cons, length-walk, walk_same, walk-front, head_once, bounded_none}
 use Rattle.pages.proofs.Words.{Inside, gather_same, gather_on, gather_new}
 use Rattle.pages.proofs.States.{Kept, length-way, held, wide_at, at, rest, ended, chain_at, apart, once_in, inside, page_below, region_is, length_is}

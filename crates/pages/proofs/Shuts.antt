@@ -1,15 +1,15 @@
 -- A page store after its top region was taken away. Assumes nothing.
 use Rattle.std.proofs.Common.{◌≡◌, ℕ, zero, suc, ◌+◌, ◌-◌, ◌<◌, ◌≤◌, cond, eqb, List, [], ◌∷◌, ◌++◌, length, get_or, map, take, set, sym, ap, ◌∙◌, arith}
-use Rattle.std.proofs.lemmas.List.{length-map, length-set, length-take, length-take-le, map-set, set-get_or, take-map, get_or-take}
+use Rattle.std.proofs.lemmas.List.{length-map, length-set, length-take, length-take-le, take-map, get_or-take}
 use Rattle.std.proofs.lemmas.List.Sums.{sum_by-append, sum_by-take-le, sum_by_more_le}
-use Rattle.std.proofs.lemmas.List.Elements.{All-set, All-take, All-get_or, All-from_get_or}
+use Rattle.std.proofs.lemmas.List.Elements.{All-take, All-from_get_or}
 use Rattle.regions.specs.Model.{close_after}
 use Rattle.regions.specs.Rules.{pages_of, pages_total}
 use Rattle.pages.specs.Chain.{walk, chain, chains, lengths_of, none, IsEnded, oldest, times, times_in, gather, words_of}
 use Rattle.pages.specs.Held.{holds, way}
 use Rattle.pages.specs.declared.chain.Chain.{Chain}
 use Rattle.pages.specs.declared.pages.Pages.{Pages}
-use Rattle.pages.proofs.Lists.{get_or-map_default, map_below}
+use Rattle.pages.proofs.Lists.{map_below}
 use Rattle.pages.proofs.Links.{times-there, walk_same, walk-join}
 use Rattle.pages.proofs.Words.{inside-at}
 use Rattle.pages.proofs.States.{Kept, length-way, held, at, rest, ended, chain_at, apart, once_in, inside, count_is}

@@ -1,5 +1,4 @@
-use Rattle.std.proofs.Common.{get_or, ap, arith}
-use Rattle.pages.specs.Chain.{none}
+use Rattle.std.proofs.Common.{arith}
 use Rattle.pages.proofs.States.{length_is, fits}
 use Rattle.pages.proofs.Pushes.{known, top_on, kept_on, held_on, some_left, free_low, kept_new, held_new}
 use Rattle.pages.proofs.pages.Pages.push.Goals as goal
